@@ -1,0 +1,19 @@
+use mathlib.Core.Path.{_≡_, sym, ap, subst, _∙_}
+use borrow.Author.Needs.{needs}
+use Rattle.analysis.specs.Admission.{Admitted}
+use Rattle.analysis.specs.Drafts.{lines}
+use Rattle.analysis.specs.Growth.{Served}
+use Rattle.analysis.proofs.admitted.AdmittedPlan.admit.Needs as need
+
+pub returns : need.returns
+returns g c =
+    let k = g .S·Server .kind in
+    let plan = ap lines (c .replace-self .ensures .value) in
+    let rest = ap lines (c .replace-self .ensures .after) ∙ c .new .ensures in
+    record {
+      answered = search needs;
+      draft-after = rest;
+      plan-after = plan;
+      admitted = λ served before. subst (Admitted k) (sym plan) (record { passing = c .in-Continue-check .ensures tt .says; served = served });
+      served = λ before. subst (Served k) (sym rest) tt;
+    }

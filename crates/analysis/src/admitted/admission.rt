@@ -1,0 +1,53 @@
+// Filling an admitted plan, and taking its lines back for changes.
+ghost use mathlib.Core.List.{[]};
+ghost use mathlib.Core.Path.{_≡_};
+ghost use lib.ListN.{length};
+ghost use Rattle.analysis.specs.Admission.{planLines, leftOver, inPlace, Admitted};
+ghost use Rattle.analysis.specs.Drafts.{lines};
+ghost use Rattle.analysis.specs.Growth.{Served};
+ghost use Rattle.analysis.specs.Verdicts.{verdict, judged};
+use crate::admitted::AdmittedPlan;
+use crate::draft::Draft;
+use crate::fault::LineFault;
+use server::kind::Server;
+use std::mem;
+
+impl<S: Server> AdmittedPlan<S> {
+    // An empty plan.
+    pub fn new() -> Self
+        ensures empty { λ r. ⌜ planLines r ≡ [] ⌝ }
+        ensures admitted { λ r. ⌜ Admitted (S·Server .kind) (planLines r) ⌝ }
+    {
+        AdmittedPlan { plan: Draft::new() }
+    }
+
+    // How many lines it has.
+    pub fn len(&self) -> usize
+        ensures { λ r. ⌜ r ≡ length (planLines (now (self .entry))) ⌝ }
+    {
+        self.plan.len()
+    }
+
+    // Its lines as a draft again.
+    pub fn reopen(self) -> Draft<S>
+        ensures same { λ r. ⌜ lines r ≡ planLines self ⌝ }
+        ensures served { λ r. ⌜ (Admitted (S·Server .kind) (planLines self) → Served (S·Server .kind) (lines r)) ⌝ }
+    {
+        let AdmittedPlan { plan } = self;
+        plan
+    }
+
+    // Puts the lines of a draft that passes in place of its own, and leaves the draft empty. Where a line does not pass,
+    // it is refused, and both stay as they stood.
+    pub fn admit(&mut self, draft: &mut Draft<S>) -> Result<(), LineFault>
+        ensures answered { λ r. ⌜ judged r ≡ verdict (S·Server .kind) (lines (now (draft .entry))) ⌝ }
+        ensures draft_after { λ r. ⌜ lines (now (draft .exit)) ≡ leftOver (judged r) (lines (now (draft .entry))) ⌝ }
+        ensures plan_after { λ r. ⌜ planLines (now (self .exit)) ≡ inPlace (judged r) (lines (now (draft .entry))) (planLines (now (self .entry))) ⌝ }
+        ensures admitted { λ _. ⌜ (Served (S·Server .kind) (lines (now (draft .entry))) → Admitted (S·Server .kind) (planLines (now (self .entry))) → Admitted (S·Server .kind) (planLines (now (self .exit)))) ⌝ }
+        ensures served { λ _. ⌜ (Served (S·Server .kind) (lines (now (draft .entry))) → Served (S·Server .kind) (lines (now (draft .exit)))) ⌝ }
+    {
+        draft.check()?;
+        self.plan = mem::replace(draft, Draft::new());
+        Ok(())
+    }
+}

@@ -1,0 +1,4 @@
+pub mod DecodedLine
+pub mod NumberBytes
+pub mod RecordParts
+pub mod RoundTrip

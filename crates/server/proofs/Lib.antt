@@ -1,0 +1,4 @@
+pub mod RoundingLaws
+pub mod CeilingLaws
+pub mod ReplenishmentLaws
+pub mod TableLaws

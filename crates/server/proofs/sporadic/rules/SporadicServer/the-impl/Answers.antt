@@ -1,0 +1,8 @@
+-- The ceiling is one budget for each period.
+use mathlib.Core.Path.{refl}
+use Rattle.server.specs.SporadicKind.{sporadic}
+use Rattle.server.proofs.CeilingLaws.{per-period-steady}
+use Rattle.server.proofs.sporadic.rules.SporadicServer.the-impl.Needs as need
+
+pub steady-law : need.steady-law
+steady-law = per-period-steady sporadic (λ t n. refl)

@@ -1,0 +1,10 @@
+pub mod Kind
+pub mod View
+pub mod Rounding
+pub mod Budgets
+pub mod PollingKind
+pub mod DeferrableKind
+pub mod Replenishments
+pub mod SporadicKind
+pub mod PendingView
+pub mod SporadicView
