@@ -24,14 +24,14 @@ pub record Grants (k : Kind) (ls : List Line) (l : Line) : Type 0 where
   pub room : length ls < 20
   pub known : served k l ≡ true
 
-joins-granted : (k : Kind) (count held : ℕ) (l m : Line) → joins k count held l ≡ granted m → (m ≡ l) × (count < 20) × (served k l ≡ true)
-joins-granted k count held l m e = search needs
+joins-granted : (k : Kind) (count serverCount : ℕ) (l m : Line) → joins k count serverCount l ≡ granted m → (m ≡ l) × (count < 20) × (served k l ≡ true)
+joins-granted k count serverCount l m e = search needs
 
 module _ (k : Kind) (ls : List Line) (bs : List ℕ) where
   -- what is added, by the numbers that a draft counts
-  added-from : (count held : ℕ) → count ≡ length ls → held ≡ servers ls → (a : Answer Line) → a ≡ placed (count + 1) (decoded bs) → added k ls bs ≡ joinsIf k count held a
+  added-from : (count serverCount : ℕ) → count ≡ length ls → serverCount ≡ servers ls → (a : Answer Line) → a ≡ placed (count + 1) (decoded bs) → added k ls bs ≡ joinsIf k count serverCount a
   unfolding added
-  added-from count held long many a is =
+  added-from count serverCount long many a is =
       let next : count + 1 ≡ suc (length ls) = omega arith in
       let same : placed (count + 1) (decoded bs) ≡ placed (suc (length ls)) (decoded bs) = ap (λ n. placed n (decoded bs)) next in
       cc
@@ -47,6 +47,6 @@ module _ (k : Kind) (ls : List Line) (bs : List ℕ) where
   added-grants l e = grants l (decoded bs) refl e
 
 -- of a draft
-pub added-to : (k : Kind) {S : Type 0} (d : Draft S) (bs : List ℕ) (held : ℕ) → held ≡ servers (lines d) → (a : Answer Line) → a ≡ placed (d .count + 1) (decoded bs)
-    → added k (lines d) bs ≡ joinsIf k (d .count) held a
-added-to k d bs held many a is = added-from k (lines d) bs (d .count) held (sym (lines-length d)) many a is
+pub added-to : (k : Kind) {S : Type 0} (d : Draft S) (bs : List ℕ) (serverCount : ℕ) → serverCount ≡ servers (lines d) → (a : Answer Line) → a ≡ placed (d .count + 1) (decoded bs)
+    → added k (lines d) bs ≡ joinsIf k (d .count) serverCount a
+added-to k d bs serverCount many a is = added-from k (lines d) bs (d .count) serverCount (sym (lines-length d)) many a is

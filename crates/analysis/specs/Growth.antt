@@ -32,15 +32,15 @@ served k (Server s) = k .serves (s .letter)
 
 -- a line after so many lines and servers, as the record after them: at most 20 lines (11), at most 4 servers (12), no
 -- letter that the kind does not serve (13)
-abbrev pub joins : Kind → (count held : ℕ) → Line → Answer Line
-joins k count held l =
+abbrev pub joins : Kind → (count serverCount : ℕ) → Line → Answer Line
+joins k count serverCount l =
     verify (ltb count 20) 11 (suc count)
-    (verify (not (isServerLine l) || ltb held 4) 12 (suc count) (verify (served k l) 13 (suc count) (granted l)))
+    (verify (not (isServerLine l) || ltb serverCount 4) 12 (suc count) (verify (served k l) 13 (suc count) (granted l)))
 
 -- the same of what a record decoded to
-abbrev pub joinsIf : Kind → (count held : ℕ) → Answer Line → Answer Line
-joinsIf k count held (granted l) = joins k count held l
-joinsIf k count held (refused number «record» byte) = refused number «record» byte
+abbrev pub joinsIf : Kind → (count serverCount : ℕ) → Answer Line → Answer Line
+joinsIf k count serverCount (granted l) = joins k count serverCount l
+joinsIf k count serverCount (refused number «record» byte) = refused number «record» byte
 
 -- the line that the bytes add after the lines ls, or the refusal; the record has the number that its line would get
 unfoldable pub added : Kind → List Line → List ℕ → Answer Line

@@ -1,4 +1,4 @@
--- How long a whole plan and its text can be.
+-- How long a whole plan is, and how large its times are.
 -- Assumes nothing.
 use mathlib.Core.Path.{_≡_, refl, sym, ap, subst, _∙_}
 use mathlib.Core.Bool.{Bool, true, false, cond}
@@ -51,7 +51,7 @@ module _ (k : Kind) (bs : List ℕ) where
   read-step n ls (granted ms) before e = read-more n ms ls (added k ms (recordAt bs n)) refl (before ms refl) e
   read-step n ls (refused number «record» byte) before e = let z : _≡_ {A = ℕ} 0 1 = cc in absurd (omega arith)
 
-  lines-read : (n : ℕ) (ls : List Line) → linesTo k bs n ≡ granted ls → Read n ls
+  pub lines-read : (n : ℕ) (ls : List Line) → linesTo k bs n ≡ granted ls → Read n ls
   lines-read zero ls e =
       let same : [] ≡ ls = cc in
       subst (Read 0) same (record { many = refl; few = omega arith; fit = tt })

@@ -14,17 +14,17 @@ abbrev pub total : List Entry → ℕ
 total [] = 0
 total (e ∷ es) = e .amount + total es
 
--- an entry with another one added: it takes the due tick of that one
+-- the amount of a new entry added to an entry, which takes the new due tick
 abbrev pub added : Entry → Entry → Entry
 added e new = record { due = new .due; amount = e .amount + new .amount }
 
--- an entry added to the latest one (with none pending it is the only one)
+-- a new entry added to the latest (with none pending it is the only one)
 abbrev pub merged : List Entry → Entry → List Entry
 merged [] new = new ∷ []
 merged (e ∷ []) new = added e new ∷ []
 merged (e ∷ (f ∷ es)) new = e ∷ merged (f ∷ es) new
 
--- an entry written: it is the latest of up to 16, and with 16 pending it is added to the latest
+-- a new entry written behind the others; with 16 pending it is added to the latest
 abbrev pub written : List Entry → Entry → List Entry
 written es new = cond (ltb (length es) 16) (es ++ new ∷ []) (merged es new)
 

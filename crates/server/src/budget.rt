@@ -13,7 +13,7 @@ pub(crate) fn after_tick(held: u32, ran: bool) -> u32
     if ran { held.saturating_sub(1) } else { held }
 }
 
-// One budget for each period in n ticks, the last period counted in full.
+// One budget for each period in n ticks, the last period counted in full. Up to 2,000,000 ticks it fits 32 bits.
 pub(crate) fn per_period(given: &ServerTerms, n: u32) -> u32
     requires { ⌜ n ≤ 2000000 ⌝ }
     ensures { λ r. ⌜ r ≡ per-period (terms-of (now (given .entry))) n ⌝ }

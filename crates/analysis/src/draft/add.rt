@@ -17,9 +17,9 @@ use plan::line::Line;
 use server::kind::Server;
 
 // The line, if there is room for it after so many lines and servers, and the kind serves it.
-fn fitting<S: Server>(count: usize, held: usize, line: Line) -> Result<Line, Fault>
+fn fitting<S: Server>(count: usize, server_count: usize, line: Line) -> Result<Line, Fault>
     requires { ⌜ count ≤ 20 ⌝ }
-    ensures { λ r. ⌜ answer r ≡ joins (S·Server .kind) count held line ⌝ }
+    ensures { λ r. ⌜ answer r ≡ joins (S·Server .kind) count «server_count» line ⌝ }
 {
     let record = count as u32 + 1;
     if count >= 20 {
@@ -30,7 +30,7 @@ fn fitting<S: Server>(count: usize, held: usize, line: Line) -> Result<Line, Fau
         });
     }
     if let Line::Server(server) = line {
-        if held >= 4 {
+        if server_count >= 4 {
             return Err(Fault {
                 refusal: Refusal::Servers,
                 record,

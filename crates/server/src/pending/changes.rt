@@ -18,7 +18,7 @@ impl Pending {
         }
     }
 
-    // Writes an entry behind the others. With 16 pending it is added to the latest, which takes its due tick.
+    // Writes a new entry behind the others. With 16 pending its amount is added to the latest, which takes the new due tick.
     pub(crate) fn write(&mut self, new: Entry)
         requires { ⌜ total (pending-of (now self)) + new .amount < 2 ^ 32 ⌝ }
         ensures { λ _. ⌜ pending-of (now (self .exit)) ≡ written (pending-of (now (self .entry))) new ⌝ }
@@ -27,9 +27,7 @@ impl Pending {
             self.entries[self.count] = new;
             self.count += 1;
         } else {
-            let latest = &mut self.entries[15];
-            latest.due = new.due;
-            latest.amount += new.amount;
+            self.entries[15].add(new);
         }
     }
 

@@ -30,6 +30,7 @@ pub impl Server for Sporadic as SporadicServer {
         }
     }
 
+    // The entry due at this tick is held again, and if one went, an open slice closes.
     fn begin(&mut self, tick: u32, _wanted: bool) {
         self.tick = tick;
         if let Some(amount) = self.pending.go(tick) {
