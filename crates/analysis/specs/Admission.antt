@@ -2,11 +2,9 @@
 -- Assumes nothing.
 use mathlib.Core.List.{List, []}
 use Prim.Native.Nat.{ℕ}
-use Rattle.server.specs.Kind.{Kind}
 use Rattle.plan.specs.declared.line.Line.{Line}
 use Rattle.analysis.specs.Drafts.{lines}
-use Rattle.analysis.specs.Growth.{Served}
-use Rattle.analysis.specs.Verdicts.{Verdict, passes, fails, AllPass}
+use Rattle.analysis.specs.Verdicts.{Verdict, passes, fails}
 use Rattle.analysis.specs.declared.admitted.AdmittedPlan.{AdmittedPlan}
 
 -- the lines of an admitted plan
@@ -22,8 +20,3 @@ leftOver (fails number n) draft = draft
 abbrev pub inPlace : Verdict → (draft plan : List Line) → List Line
 inPlace passes draft plan = draft
 inPlace (fails number n) draft plan = plan
-
--- what is known of the lines of an admitted plan: they pass, and its kind serves them
-pub record Admitted (k : Kind) (ls : List Line) : Type 0 where
-  pub passing : AllPass k ls
-  pub served : Served k ls

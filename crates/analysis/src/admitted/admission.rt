@@ -2,10 +2,10 @@
 ghost use mathlib.Core.List.{[]};
 ghost use mathlib.Core.Path.{_≡_};
 ghost use lib.ListN.{length};
-ghost use Rattle.analysis.specs.Admission.{planLines, leftOver, inPlace, Admitted};
+ghost use Rattle.analysis.specs.Admission.{planLines, leftOver, inPlace};
 ghost use Rattle.analysis.specs.Drafts.{lines};
 ghost use Rattle.analysis.specs.Growth.{Served};
-ghost use Rattle.analysis.specs.Verdicts.{verdict, judged};
+ghost use Rattle.analysis.specs.Verdicts.{verdict, judged, AllPass};
 use crate::admitted::AdmittedPlan;
 use crate::draft::Draft;
 use crate::fault::LineFault;
@@ -16,7 +16,8 @@ impl<S: Server> AdmittedPlan<S> {
     // An empty plan.
     pub fn new() -> Self
         ensures empty { λ r. ⌜ planLines r ≡ [] ⌝ }
-        ensures admitted { λ r. ⌜ Admitted (S·Server .kind) (planLines r) ⌝ }
+        ensures passing { λ r. ⌜ AllPass (S·Server .kind) (planLines r) ⌝ }
+        ensures served { λ r. ⌜ Served (S·Server .kind) (planLines r) ⌝ }
     {
         AdmittedPlan { plan: Draft::new() }
     }
@@ -30,8 +31,7 @@ impl<S: Server> AdmittedPlan<S> {
 
     // Its lines as a draft again.
     pub fn reopen(self) -> Draft<S>
-        ensures same { λ r. ⌜ lines r ≡ planLines self ⌝ }
-        ensures served { λ r. ⌜ (Admitted (S·Server .kind) (planLines self) → Served (S·Server .kind) (lines r)) ⌝ }
+        ensures { λ r. ⌜ lines r ≡ planLines self ⌝ }
     {
         let AdmittedPlan { plan } = self;
         plan
@@ -43,8 +43,8 @@ impl<S: Server> AdmittedPlan<S> {
         ensures answered { λ r. ⌜ judged r ≡ verdict (S·Server .kind) (lines (now (draft .entry))) ⌝ }
         ensures draft_after { λ r. ⌜ lines (now (draft .exit)) ≡ leftOver (judged r) (lines (now (draft .entry))) ⌝ }
         ensures plan_after { λ r. ⌜ planLines (now (self .exit)) ≡ inPlace (judged r) (lines (now (draft .entry))) (planLines (now (self .entry))) ⌝ }
-        ensures admitted { λ _. ⌜ (Served (S·Server .kind) (lines (now (draft .entry))) → Admitted (S·Server .kind) (planLines (now (self .entry))) → Admitted (S·Server .kind) (planLines (now (self .exit)))) ⌝ }
-        ensures served { λ _. ⌜ (Served (S·Server .kind) (lines (now (draft .entry))) → Served (S·Server .kind) (lines (now (draft .exit)))) ⌝ }
+        ensures passing { λ _. ⌜ (AllPass (S·Server .kind) (planLines (now (self .entry))) → AllPass (S·Server .kind) (planLines (now (self .exit)))) ⌝ }
+        ensures served { λ _. ⌜ (Served (S·Server .kind) (lines (now (draft .entry))) → Served (S·Server .kind) (planLines (now (self .entry))) → Served (S·Server .kind) (planLines (now (self .exit)))) ⌝ }
     {
         draft.check()?;
         self.plan = mem::replace(draft, Draft::new());

@@ -1,8 +1,8 @@
 use mathlib.Core.Path.{_≡_, sym, ap, subst, _∙_}
 use borrow.Author.Needs.{needs}
-use Rattle.analysis.specs.Admission.{Admitted}
 use Rattle.analysis.specs.Drafts.{lines}
 use Rattle.analysis.specs.Growth.{Served}
+use Rattle.analysis.specs.Verdicts.{AllPass}
 use Rattle.analysis.proofs.admitted.AdmittedPlan.admit.Needs as need
 
 pub returns : need.returns
@@ -14,6 +14,6 @@ returns g c =
       answered = search needs;
       draft-after = rest;
       plan-after = plan;
-      admitted = λ served before. subst (Admitted k) (sym plan) (record { passing = c .in-Continue-check .ensures tt .says; served = served });
-      served = λ before. subst (Served k) (sym rest) tt;
+      passing = λ before. subst (AllPass k) (sym plan) (c .in-Continue-check .ensures tt .says);
+      served = λ draft before. subst (Served k) (sym plan) draft;
     }
