@@ -37,6 +37,13 @@ impl<S: Server> AdmittedPlan<S> {
         plan
     }
 
+    fn take_over(&mut self, draft: &mut Draft<S>)
+        ensures rest { λ _. ⌜ lines (now (draft .exit)) ≡ [] ⌝ }
+        ensures plan { λ _. ⌜ planLines (now (self .exit)) ≡ lines (now (draft .entry)) ⌝ }
+    {
+        self.plan = mem::replace(draft, Draft::new());
+    }
+
     // Puts the lines of a draft that passes in place of its own, and leaves the draft empty. Where a line does not pass,
     // it is refused, and both stay as they stood.
     pub fn admit(&mut self, draft: &mut Draft<S>) -> Result<(), LineFault>
@@ -47,7 +54,7 @@ impl<S: Server> AdmittedPlan<S> {
         ensures served { λ _. ⌜ (Served (S·Server .kind) (lines (now (draft .entry))) → Served (S·Server .kind) (planLines (now (self .entry))) → Served (S·Server .kind) (planLines (now (self .exit)))) ⌝ }
     {
         draft.check()?;
-        self.plan = mem::replace(draft, Draft::new());
+        self.take_over(draft);
         Ok(())
     }
 }

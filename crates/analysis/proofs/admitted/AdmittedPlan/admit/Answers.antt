@@ -1,6 +1,5 @@
-use mathlib.Core.Path.{_≡_, sym, ap, subst, _∙_}
+use mathlib.Core.Path.{sym, subst}
 use borrow.Author.Needs.{needs}
-use Rattle.analysis.specs.Drafts.{lines}
 use Rattle.analysis.specs.Growth.{Served}
 use Rattle.analysis.specs.Verdicts.{AllPass}
 use Rattle.analysis.proofs.admitted.AdmittedPlan.admit.Needs as need
@@ -8,11 +7,10 @@ use Rattle.analysis.proofs.admitted.AdmittedPlan.admit.Needs as need
 pub returns : need.returns
 returns g c =
     let k = g .S·Server .kind in
-    let plan = ap lines (c .replace-self .ensures .value) in
-    let rest = ap lines (c .replace-self .ensures .after) ∙ c .new .ensures in
+    let plan = c .take-over .ensures .plan in
     record {
       answered = search needs;
-      draft-after = rest;
+      draft-after = c .take-over .ensures .rest;
       plan-after = plan;
       passing = λ before. subst (AllPass k) (sym plan) (c .in-Continue-check .ensures tt .says);
       served = λ draft before. subst (Served k) (sym plan) draft;
