@@ -1,5 +1,4 @@
 -- Counting up from 1 finds the least solution: the response time as a number is the one of the relation.
--- Assumes nothing.
 use mathlib.Core.Path.{_≡_, refl, sym, _∙_}
 use mathlib.Core.Bool.{Bool, true, false, cond}
 use mathlib.Core.List.{List}

@@ -1,5 +1,4 @@
 -- Admission: the lines of a draft that passes take the place of an admitted plan's.
--- Assumes nothing.
 use mathlib.Core.List.{List, []}
 use Prim.Native.Nat.{ℕ}
 use Rattle.plan.specs.declared.line.Line.{Line}

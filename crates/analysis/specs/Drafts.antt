@@ -1,5 +1,4 @@
 -- The lines of a draft and of an admitted plan.
--- Assumes nothing.
 use mathlib.Core.List.{List, map}
 use lib.ListN.{take}
 use Rattle.plan.specs.declared.line.Line.{Line}

@@ -1,5 +1,4 @@
 -- The response-time equation: what a line and the lines above it ask of the processor in a window of ticks.
--- Assumes nothing.
 use mathlib.Core.List.{List}
 use Prim.Native.Nat.{ℕ, _+_, _*_}
 use Rattle.std.specs.shelf.Lists.{sumBy}

@@ -1,5 +1,4 @@
 -- The response time of a line: the least time from 1 to its limit in which the demand is met.
--- Assumes nothing.
 use mathlib.Core.Bool.{Bool, cond}
 use mathlib.Core.List.{List}
 use Prim.Native.Nat.{ℕ, zero, suc, _≤_}

@@ -1,5 +1,4 @@
 -- The response times of all lines of a plan, in line order; 0 for a line that does not pass.
--- Assumes nothing.
 use mathlib.Core.Bool.{cond}
 use mathlib.Core.List.{List, [], _∷_, _++_}
 use Prim.Native.Nat.{ℕ}

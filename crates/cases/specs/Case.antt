@@ -1,5 +1,4 @@
 -- A case worked out by hand, and what it claims of the definitions.
--- Assumes nothing.
 use mathlib.Core.Path.{_≡_}
 use mathlib.Core.List.{List}
 use Prim.Native.Nat.{ℕ}

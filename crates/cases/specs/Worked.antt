@@ -1,5 +1,4 @@
 -- The cases that were worked out by hand.
--- Assumes nothing.
 use mathlib.Core.List.{List, [], _∷_}
 use Prim.Native.Nat.{ℕ}
 use Rattle.plan.specs.declared.line.Line.{Line}

@@ -1,5 +1,4 @@
 -- What a host written in C gets: one number as the answer, and 8 bytes for each line.
--- Assumes nothing.
 use mathlib.Core.Bool.{cond}
 use mathlib.Core.List.{List, [], _∷_, _++_}
 use Prim.Native.Nat.{ℕ, suc, _+_, _*_}

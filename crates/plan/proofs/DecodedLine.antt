@@ -1,5 +1,4 @@
 -- A record that decodes to a line: it passes each check, and the line is within its bounds.
--- Assumes nothing.
 use mathlib.Core.Bool.{true}
 use mathlib.Core.List.{List}
 use mathlib.Core.Path.{_≡_}

@@ -1,5 +1,4 @@
 -- A number and its four bytes: each gives the other back.
--- Assumes nothing.
 use mathlib.Core.List.{List, [], _∷_}
 use mathlib.Core.Path.{_≡_}
 use Prim.Native.Nat.{ℕ, _+_, _/_, _<_, _^_}

@@ -1,5 +1,4 @@
 -- A record of 20 bytes by its parts: its first four bytes, and the rest with its numbers.
--- Assumes nothing.
 use mathlib.Core.List.{List}
 use mathlib.Core.Path.{_≡_}
 use Prim.Native.Nat.{ℕ, _+_, _-_}

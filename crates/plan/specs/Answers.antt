@@ -1,5 +1,4 @@
 -- Answers by their numbers: each refusal's number, and a result read as what it decodes to.
--- Assumes nothing.
 use mathlib.Core.Bool.{cond}
 use Prim.Native.Nat.{ℕ}
 use lib.Dec.{eqb}

@@ -1,5 +1,4 @@
 -- Numbers as bytes: 32 bits, least byte first.
--- Assumes nothing.
 use mathlib.Core.List.{List, [], _∷_}
 use Prim.Native.Nat.{ℕ, _+_, _*_, _/_, _%_}
 use lib.ListN.{getD}

@@ -1,5 +1,4 @@
 -- The fault of a field as the fault of its record: its refusal, and the byte where the field begins.
--- Assumes nothing.
 use Rattle.plan.specs.Answers.{decodes}
 use Rattle.plan.specs.Records.{Decoded, line}
 use Rattle.plan.specs.declared.fault.FieldFault.{FieldFault}

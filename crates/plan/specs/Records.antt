@@ -5,7 +5,6 @@
 --   bytes 8 to 11  period, from 1 to 1,000,000
 --   bytes 12 to 15 deadline of a task, from its work to its period; zero for a server
 --   bytes 16 to 19 first arrival of a task, below its period; zero for a server
--- Assumes nothing.
 use mathlib.Core.Path.{_≡_}
 use mathlib.Core.Bool.{Bool, true, false, cond, _&&_, _||_}
 use mathlib.Core.List.{List, [], _∷_, _++_}

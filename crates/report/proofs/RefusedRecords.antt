@@ -1,5 +1,4 @@
 -- The record that a refusal of a whole plan names is at most 21.
--- Assumes nothing.
 use mathlib.Core.Path.{_≡_, refl, subst}
 use mathlib.Core.Bool.{Bool, true, false, cond}
 use mathlib.Core.List.{List}

@@ -1,5 +1,4 @@
 -- The text that shows the times of a plan: a row for each line, and a verdict; or why the plan is refused.
--- Assumes nothing.
 use mathlib.Core.Bool.{cond}
 use mathlib.Core.List.{List, [], _∷_, _++_}
 use Prim.Native.Nat.{ℕ, suc, _*_}

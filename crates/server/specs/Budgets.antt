@@ -1,5 +1,4 @@
 -- What several kinds of server have in common.
--- Assumes nothing.
 use mathlib.Core.Bool.{Bool, cond}
 use lib.Dec.{eqb}
 use Prim.Native.Nat.{ℕ, _-_, _*_, _%_}

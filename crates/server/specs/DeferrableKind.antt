@@ -1,6 +1,5 @@
 -- The deferrable server: it has its budget when new and again at the start of each period, and keeps what it holds until then.
 -- Its state is what it holds.
--- Assumes nothing.
 use mathlib.Core.Bool.{Bool, cond}
 use lib.Dec.{eqb}
 use Prim.Native.Nat.{ℕ, zero, suc, _+_, _-_}

@@ -1,5 +1,4 @@
 -- What a kind of server is, in full: everything that is proved about servers is proved about such a record.
--- Assumes nothing.
 use mathlib.Core.Path.{_≡_}
 use mathlib.Core.Bool.{Bool}
 use Prim.Native.Nat.{ℕ, _≤_}

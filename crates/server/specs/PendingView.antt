@@ -1,5 +1,4 @@
 -- The entries that a table has pending.
--- Assumes nothing.
 use mathlib.Core.List.{List}
 use lib.ListN.{take}
 use Rattle.server.specs.declared.entry.Entry.{Entry}

@@ -1,6 +1,5 @@
 -- The polling server: it gets its budget at the start of a period, if it is wanted then, and loses it as soon as it is not wanted.
 -- Its state is what it holds.
--- Assumes nothing.
 use mathlib.Core.Bool.{Bool, cond}
 use lib.Dec.{eqb}
 use Prim.Native.Nat.{ℕ}

@@ -1,5 +1,4 @@
 -- The replenishments that are pending, oldest first: at most 16 entries, each a due tick and an amount.
--- Assumes nothing.
 use mathlib.Core.Bool.{cond}
 use mathlib.Core.List.{List, [], _∷_, _++_}
 use lib.Dec.{eqb, ltb}

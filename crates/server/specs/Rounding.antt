@@ -1,5 +1,4 @@
 -- Division rounded up.
--- Assumes nothing.
 use Prim.Native.Nat.{ℕ, _+_, _-_, _*_, _/_, _≤_}
 
 -- n divided by p, rounded up; 0 where p is 0

@@ -1,6 +1,5 @@
 -- The sporadic server, with simple replenishment: what a slice of consecutive ticks served takes is held again one period
 -- after the slice's first tick.
--- Assumes nothing.
 use mathlib.Core.Bool.{Bool, true, false, cond}
 use mathlib.Core.List.{List, []}
 use lib.Dec.{eqb}

@@ -1,5 +1,4 @@
 -- The state that a `Sporadic` is in.
--- Assumes nothing.
 use Rattle.server.specs.declared.sporadic.Sporadic.{Sporadic}
 use Rattle.server.specs.PendingView.{pending-of}
 use Rattle.server.specs.SporadicKind.{SporadicState}

@@ -1,5 +1,4 @@
 -- The terms that a `ServerTerms` holds, and that they are within their bounds.
--- Assumes nothing.
 use Rattle.server.specs.Kind.{Terms, Fit}
 use Rattle.server.specs.declared.terms.ServerTerms.{ServerTerms}
 
