@@ -33,4 +33,25 @@ longest-holds = (ap (λ t. granted (t ∷ [])) (top-time _ _ (lit≤ tt) (lit≤
 -- every other case is computed
 pub all-hold : All Holds cases
 unfolding planTimes planLetter planFor added decoded encoded times timeOf
-all-hold = ((refl, refl), ((refl, refl), ((refl, refl), ((refl, refl), ((refl, refl), ((refl, refl), ((refl, refl), (longest-holds, tt))))))))
+all-hold = (
+  (refl, refl),
+  (
+    (refl, refl),
+    (
+      (refl, refl),
+      (
+        (refl, refl),
+        (
+          (refl, refl),
+          (
+            (refl, refl),
+            (
+              (refl, refl),
+              (longest-holds, (refl, (refl, (refl, (refl, (refl, (refl, (refl, (refl, (refl, (refl, tt))))))))))),
+            ),
+          ),
+        ),
+      ),
+    ),
+  ),
+)

@@ -1,10 +1,14 @@
 -- The cases that were worked out by hand.
+use mathlib.Core.Bool.{true, false}
 use mathlib.Core.List.{List, [], _∷_}
-use Prim.Native.Nat.{ℕ}
+use Prim.Native.Nat.{ℕ, zero, suc}
+use Rattle.server.specs.Kind.{Terms}
+use Rattle.server.specs.SporadicKind.{SporadicState}
+use Rattle.server.specs.declared.entry.Entry.{Entry}
 use Rattle.plan.specs.declared.line.Line.{Line}
 use Rattle.plan.specs.declared.line.Line.the-variants.{Task, Server}
 use Rattle.analysis.specs.Verdicts.{passes, fails}
-use Rattle.cases.specs.Case.{Case, timed}
+use Rattle.cases.specs.Case.{Case, timed, told, start, end}
 
 abbrev pub task : (work period deadline first : ℕ) → Line
 task work period deadline first = Task (record { work = work; period = period; deadline = deadline; first = first })
@@ -26,6 +30,29 @@ S = 83
 abbrev pub longest : Case
 longest = timed (task 1000000 1000000 1000000 0 ∷ []) (1000000 ∷ []) passes
 
+-- the budgets and periods of the sporadic servers below
+abbrev pub short : Terms
+short = record { letter = S; budget = 3; period = 8 }
+
+abbrev pub long : Terms
+long = record { letter = S; budget = 22; period = 100 }
+
+abbrev pub entry : (due amount : ℕ) → Entry
+entry due amount = record { due = due; amount = amount }
+
+-- a server that holds so much, with these entries pending, no slice open, and this tick last begun
+abbrev pub idle : (held : ℕ) (entries : List Entry) (first tick : ℕ) → SporadicState
+idle held entries first tick = record { held = held; entries = entries; first = first; slice = 0; tick = tick }
+
+-- the same with a slice open that began at a tick and took so much
+abbrev pub open-slice : (held : ℕ) (entries : List Entry) (first slice tick : ℕ) → SporadicState
+open-slice held entries first slice tick = record { held = held; entries = entries; first = first; slice = slice; tick = tick }
+
+-- n entries of 1, due at every second tick from a tick on, before other entries
+abbrev pub many : (n due : ℕ) → List Entry → List Entry
+many zero due rest = rest
+many (suc n) due rest = entry due 1 ∷ many n (suc (suc due)) rest
+
 abbrev pub cases : List Case
 cases =
     -- a sporadic server between two tasks
@@ -43,4 +70,24 @@ cases =
     -- half of it leaves enough
     ∷ timed (task 1 4 4 0 ∷ server P 1 5 ∷ task 2 6 6 0 ∷ []) (1 ∷ 2 ∷ 4 ∷ []) passes
     ∷ longest
+    -- a tick run opens a slice at that tick, and takes 1 of what is held
+    ∷ told short (idle 3 [] 0 5) (end true ∷ []) (open-slice 2 [] 5 1 5)
+    -- a second tick in a row goes to the same slice
+    ∷ told short (open-slice 2 [] 5 1 5) (start 6 ∷ end true ∷ []) (open-slice 1 [] 5 2 6)
+    -- at 0 held the slice closes: what it took is due a period after its first tick
+    ∷ told short (open-slice 1 [] 5 2 6) (start 7 ∷ end true ∷ []) (idle 0 (entry 13 3 ∷ []) 5 7)
+    -- at the end of a tick not run it closes too
+    ∷ told short (open-slice 2 [] 5 1 5) (start 6 ∷ end false ∷ []) (idle 2 (entry 13 1 ∷ []) 5 6)
+    -- an entry goes at its due tick, and its amount is held again
+    ∷ told short (idle 1 (entry 13 2 ∷ []) 5 12) (start 13 ∷ []) (idle 3 [] 5 13)
+    -- not a tick earlier
+    ∷ told short (idle 1 (entry 13 2 ∷ []) 5 11) (start 12 ∷ []) (idle 1 (entry 13 2 ∷ []) 5 12)
+    -- an entry that goes closes an open slice
+    ∷ told short (open-slice 1 (entry 13 1 ∷ []) 12 1 12) (start 13 ∷ []) (idle 2 (entry 20 1 ∷ []) 12 13)
+    -- so that the next tick run begins another
+    ∷ told short (open-slice 1 (entry 13 1 ∷ []) 12 1 12) (start 13 ∷ end true ∷ []) (open-slice 1 (entry 20 1 ∷ []) 13 1 13)
+    -- a 16th entry has its own place
+    ∷ told long (open-slice 4 (many 15 110 []) 95 3 97) (start 98 ∷ end false ∷ []) (idle 4 (many 15 110 (entry 195 3 ∷ [])) 95 98)
+    -- a 17th is added to the latest, which takes the new due tick
+    ∷ told long (open-slice 3 (many 15 110 (entry 190 1 ∷ [])) 95 3 97) (start 98 ∷ end false ∷ []) (idle 3 (many 15 110 (entry 195 4 ∷ [])) 95 98)
     ∷ []

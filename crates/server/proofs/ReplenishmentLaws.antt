@@ -3,10 +3,10 @@ use mathlib.Core.Path.{_≡_, refl, ap}
 use mathlib.Core.Bool.{Bool, true, false, cond}
 use mathlib.Core.List.{List, [], _∷_, _++_}
 use lib.Dec.{ltb}
-use lib.ListN.{length, getD, set}
-use Prim.Native.Nat.{ℕ, zero, suc, _+_, _≤_, _<_}
+use lib.ListN.{length, getD, set, length-append}
+use Prim.Native.Nat.{ℕ, zero, suc, max, _+_, _≤_, _<_}
 use native.Mathlib.Omega.{arith}
-use Rattle.std.proofs.shelf.Tests.{lt-ltb, le-ltb, cond-true, cond-false}
+use Rattle.std.proofs.shelf.Tests.{lt-ltb, le-ltb, ltb-true, cond-true, cond-false, cond-both}
 use Rattle.server.specs.declared.entry.Entry.{Entry}
 use Rattle.server.specs.Replenishments.{total, added, merged, written}
 
@@ -46,3 +46,23 @@ written-room es new room = cond-true (ltb (length es) 16) _ _ (lt-ltb (length es
 
 pub written-full : (es : List Entry) (new : Entry) → 16 ≤ length es → written es new ≡ merged es new
 written-full es new full = cond-false (ltb (length es) 16) _ _ (le-ltb (length es) 16 full)
+
+-- at most one more is pending, and never more than 16
+pub record Few (es all : List Entry) : Type 0 where
+  pub one-more : length all ≤ suc (length es)
+  pub bound : length all ≤ 16
+
+length-merged : (es : List Entry) (new : Entry) → length (merged es new) ≤ max 1 (length es)
+length-merged [] new = omega arith
+length-merged (e ∷ []) new = omega arith
+length-merged (e ∷ (f ∷ es)) new = omega (arith, length-merged (f ∷ es) new)
+
+pub written-few : (es : List Entry) (new : Entry) → length es ≤ 16 → Few es (written es new)
+written-few es new few =
+    cond-both
+    (ltb (length es) 16)
+    _
+    _
+    (Few es)
+    (λ e. omega (arith, ltb-true (length es) 16 e, length-append es (new ∷ [])))
+    (λ e. omega (arith, length-merged es new))

@@ -2,6 +2,7 @@
 ghost use Prim.Native.Nat.{min};
 ghost use mathlib.Core.Path.{_≡_};
 ghost use Rattle.server.specs.Kind.{Kind, Terms, Steady};
+ghost use Rattle.server.specs.Laws.{Lawful};
 ghost use Rattle.server.specs.View.{terms-of};
 use crate::terms::ServerTerms;
 
@@ -18,6 +19,9 @@ pub trait Server: Sized {
 
     // The ceiling is 0 at 0, never falls, and is at most 4,000,000 up to 1,000,000.
     law steady: { Steady kind };
+
+    // In every history it runs at most its ceiling and at least its budget in 2 periods, and keeps what it holds while wanted.
+    law lawful: { Lawful kind };
 
     // Whether the kind serves this letter.
     fn serves(letter: u8) -> bool

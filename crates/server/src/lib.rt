@@ -3,6 +3,7 @@ mod budget;
 pub mod deferrable;
 pub mod entry;
 pub mod kind;
+pub mod laws;
 mod pending;
 pub mod polling;
 pub mod round;
