@@ -1,18 +1,23 @@
 -- The records of a draft, and the lines that they hold.
-use mathlib.Core.Path.{_≡_, refl, sym, ap, _∙_}
+use mathlib.Core.Path.{_≡_, refl, ap, subst, _∙_}
 use mathlib.Core.Bool.{true}
 use mathlib.Core.List.{List, [], _∷_, _++_, map}
-use Prim.Native.Nat.{ℕ, _-_, _≤_}
+use Prim.Native.Nat.{ℕ, _-_, _≤_, _<_}
 use native.Mathlib.Nat.{sub-zero}
 use native.Mathlib.Omega.{arith}
-use lib.ListN.{length, take}
+use lib.ListN.{length, take, getD}
+use Rattle.std.specs.Finite.{nth}
+use Rattle.std.specs.declared.option.Option.the-variants.{Some, None}
 use Rattle.std.specs.shelf.Lists.{All}
-use Rattle.std.proofs.shelf.Lists.{length-map, length-take-le}
+use Rattle.std.proofs.shelf.Elements.{all-getD}
+use Rattle.std.proofs.shelf.Lists.{length-map, length-take-le, getD-map, getD-take}
+use Rattle.std.proofs.shelf.Maps.{nth-getD, nth-past}
 use Rattle.std.proofs.shelf.Tests.{and-parts, and-from, false≢true}
 use Rattle.plan.specs.Records.{Decoded, line, fault, decoded, Fit}
 use Rattle.plan.specs.declared.line.Line.{Line}
 use Rattle.plan.proofs.DecodedLine.{decoded-fit}
 use Rattle.analysis.specs.Drafts.{lines}
+use Rattle.analysis.specs.Equation.{blank}
 use Rattle.analysis.specs.Stored.{isLine, decodable, lineIn, lineOf}
 use Rattle.analysis.specs.declared.draft.Draft.{Draft}
 
@@ -51,3 +56,19 @@ module _ {S : Type 0} (d : Draft S) where
 
   pub part-few : (part : List Line) → part ≡ lines d → length part ≤ 20
   part-few part is = omega (arith, ap length is ∙ lines-length, d .few)
+
+  -- the line at a place
+  lines-getD : (i : ℕ) → i < d .count → getD (lines d) i blank ≡ lineOf (getD (d .records) i [])
+  unfolding lines
+  lines-getD i within =
+      getD-map lineOf (take (d .count) (d .records)) i [] blank (omega (arith, length-take-le (d .count) (d .records) (omega (arith, d .places, d .few))))
+      ∙ ap lineOf (getD-take (d .count) (d .records) i [] within)
+
+  pub lines-at : (i : ℕ) → i < d .count → nth (lines d) i ≡ Some (lineOf (getD (d .records) i []))
+  lines-at i within = nth-getD (lines d) i blank (omega (arith, lines-length)) ∙ ap Some (lines-getD i within)
+
+  pub lines-at-fit : (i : ℕ) → i < d .count → Fit (lineOf (getD (d .records) i []))
+  lines-at-fit i within = subst Fit (lines-getD i within) (all-getD Fit (lines d) i blank (omega (arith, lines-length)) lines-fit)
+
+  pub lines-past : (i : ℕ) → d .count ≤ i → nth (lines d) i ≡ None
+  lines-past i past = nth-past (lines d) i (omega (arith, lines-length))

@@ -2,6 +2,9 @@
 ghost use mathlib.Core.List.{[]};
 ghost use mathlib.Core.Path.{_≡_};
 ghost use lib.ListN.{length};
+ghost use Rattle.std.specs.Finite.{nth};
+ghost use Rattle.std.specs.Slices.{found};
+ghost use Rattle.plan.specs.Records.{Fit};
 ghost use Rattle.analysis.specs.Admission.{planLines, leftOver, inPlace};
 ghost use Rattle.analysis.specs.Drafts.{lines};
 ghost use Rattle.analysis.specs.Growth.{Served};
@@ -9,6 +12,7 @@ ghost use Rattle.analysis.specs.Verdicts.{verdict, judged, AllPass};
 use crate::admitted::AdmittedPlan;
 use crate::draft::Draft;
 use crate::fault::LineFault;
+use plan::line::Line;
 use server::kind::Server;
 use std::mem;
 
@@ -27,6 +31,14 @@ impl<S: Server> AdmittedPlan<S> {
         ensures { λ r. ⌜ r ≡ length (planLines (now (self .entry))) ⌝ }
     {
         self.plan.len()
+    }
+
+    // The line at a place, counted from 0; none past the last line.
+    pub fn line(&self, place: usize) -> Option<Line>
+        ensures value { λ r. ⌜ r ≡ nth (planLines (now (self .entry))) place ⌝ }
+        ensures fit { λ r. ⌜ found r Fit ⌝ }
+    {
+        self.plan.line(place)
     }
 
     // Its lines as a draft again.

@@ -3,6 +3,9 @@ ghost use Prim.Native.Nat.{ℕ, _≤_};
 ghost use mathlib.Core.List.{[]};
 ghost use mathlib.Core.Path.{_≡_};
 ghost use lib.ListN.{length, take};
+ghost use Rattle.std.specs.Finite.{nth};
+ghost use Rattle.std.specs.Slices.{found};
+ghost use Rattle.plan.specs.Records.{Fit};
 ghost use Rattle.analysis.specs.Drafts.{lines};
 ghost use Rattle.analysis.specs.Stored.{lineOf};
 use crate::draft::Draft;
@@ -47,6 +50,18 @@ impl<S: Server> Draft<S> {
         ensures { λ r. ⌜ r ≡ length (lines (now (self .entry))) ⌝ }
     {
         self.count
+    }
+
+    // The line at a place, counted from 0; none past the last line.
+    pub fn line(&self, place: usize) -> Option<Line>
+        ensures value { λ r. ⌜ r ≡ nth (lines (now (self .entry))) place ⌝ }
+        ensures fit { λ r. ⌜ found r Fit ⌝ }
+    {
+        if place < self.count {
+            Some(line_of(&self.records[place]))
+        } else {
+            None
+        }
     }
 
     // Its lines, decoded; the places past them are blank.
