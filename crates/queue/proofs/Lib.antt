@@ -1,0 +1,4 @@
+pub mod Bounds
+mod Changes
+mod Closing
+pub mod Ranks
