@@ -1,0 +1,11 @@
+pub mod Answers
+pub mod Jobs
+pub mod Machine
+pub mod Promises
+pub mod Replies
+pub mod Reports
+pub mod Requests
+pub mod Rows
+pub mod Runs
+pub mod Tries
+pub mod Views
