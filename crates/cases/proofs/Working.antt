@@ -17,6 +17,7 @@ use Rattle.analysis.specs.Times.{times}
 use Rattle.analysis.proofs.Counting.{time-from-response}
 use Rattle.report.specs.Plans.{planFor, planLetter}
 use Rattle.report.specs.Results.{planTimes}
+use Rattle.run.specs.Machine.{ticked, offered}
 use Rattle.cases.specs.Case.{Holds}
 use Rattle.cases.specs.Worked.{cases, longest}
 
@@ -32,7 +33,7 @@ longest-holds = (ap (λ t. granted (t ∷ [])) (top-time _ _ (lit≤ tt) (lit≤
 
 -- every other case is computed
 pub all-hold : All Holds cases
-unfolding planTimes planLetter planFor added decoded encoded times timeOf
+unfolding planTimes planLetter planFor added decoded encoded times timeOf ticked offered
 all-hold = (
   (refl, refl),
   (
@@ -47,7 +48,22 @@ all-hold = (
             (refl, refl),
             (
               (refl, refl),
-              (longest-holds, (refl, (refl, (refl, (refl, (refl, (refl, (refl, (refl, (refl, (refl, tt))))))))))),
+              (
+                longest-holds,
+                (
+                  (refl, refl),
+                  (
+                    (refl, refl),
+                    (
+                      (refl, refl),
+                      (
+                        (refl, refl),
+                        (refl, (refl, (refl, (refl, (refl, (refl, (refl, (refl, (refl, (refl, tt)))))))))),
+                      ),
+                    ),
+                  ),
+                ),
+              ),
             ),
           ),
         ),

@@ -10,7 +10,12 @@ use Rattle.plan.specs.Answers.{granted}
 use Rattle.plan.specs.Records.{encoded}
 use Rattle.plan.specs.declared.line.Line.{Line}
 use Rattle.analysis.specs.Verdicts.{Verdict, verdictFrom}
+use Rattle.run.specs.declared.items.Completion.{Completion}
+use Rattle.run.specs.Machine.{started}
+use Rattle.run.specs.Tries.{Call}
+use Rattle.report.specs.Plans.{kindOf}
 use Rattle.report.specs.Results.{planTimes}
+use Rattle.cases.specs.Schedules.{schedule, endings}
 
 -- what a server is told: the start of a tick, or the end of one and whether it ran
 pub data Told : Type 0 where
@@ -26,6 +31,8 @@ after t s (end ran ∷ rest) = after t (sporadic .ended t s ran) rest
 pub data Case : Type 0 where
   -- the lines of a plan, their response times (0 for a line that does not pass), and the verdict on them
   timed : (lines : List Line) (times : List ℕ) (verdict : Verdict) → Case
+  -- the letter by which a plan is run, its lines, the calls tried in their order, the lines that its ticks choose, and the completions made
+  ran : (letter : ℕ) (lines : List Line) (calls : List Call) (chosen : List ℕ) (ended : List Completion) → Case
   -- a sporadic server with these terms and in this state, what it is told, and its state then
   told : (terms : Terms) (state : SporadicState) (events : List Told) (then : SporadicState) → Case
 
@@ -33,7 +40,10 @@ pub data Case : Type 0 where
 abbrev pub planOf : List Line → List ℕ
 planOf lines = joined encoded lines
 
--- the bytes of the plan give these times, and the times this verdict; what the server is told leads to that state
+-- the bytes of the plan give these times, and the times this verdict; the calls give this schedule and these completions; what the
+-- server is told leads to that state
 abbrev pub Holds : Case → Type 0
 Holds (timed lines times verdict) = (planTimes (planOf lines) ≡ granted times) × (verdictFrom 1 times ≡ verdict)
+Holds (ran letter lines calls chosen ended) =
+    (schedule (started {k = kindOf letter} lines 64 64) calls ≡ chosen) × (endings (started {k = kindOf letter} lines 64 64) calls ≡ ended)
 Holds (told terms state events then) = after terms state events ≡ then

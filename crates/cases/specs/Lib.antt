@@ -1,2 +1,3 @@
 pub mod Case
+pub mod Schedules
 pub mod Worked

@@ -8,7 +8,10 @@ use Rattle.server.specs.declared.entry.Entry.{Entry}
 use Rattle.plan.specs.declared.line.Line.{Line}
 use Rattle.plan.specs.declared.line.Line.the-variants.{Task, Server}
 use Rattle.analysis.specs.Verdicts.{passes, fails}
-use Rattle.cases.specs.Case.{Case, timed, told, start, end}
+use Rattle.run.specs.declared.items.Completion.{Completion}
+use Rattle.run.specs.Tries.{Call, offer}
+use Rattle.cases.specs.Case.{Case, timed, ran, told, start, end}
+use Rattle.cases.specs.Schedules.{ticks}
 
 abbrev pub task : (work period deadline first : ℕ) → Line
 task work period deadline first = Task (record { work = work; period = period; deadline = deadline; first = first })
@@ -53,6 +56,21 @@ abbrev pub many : (n due : ℕ) → List Entry → List Entry
 many zero due rest = rest
 many (suc n) due rest = entry due 1 ∷ many n (suc (suc due)) rest
 
+-- the plan of the first case, with this server
+abbrev pub plan : ℕ → List Line
+plan letter = task 1 4 4 0 ∷ server letter 2 8 ∷ task 3 12 12 0 ∷ []
+
+-- 2 offered to the server before tick 7, and 2 before tick 10; 12 ticks in all
+abbrev pub twice : List Call
+twice = ticks 7 (offer 2 2 ∷ ticks 3 (offer 2 2 ∷ ticks 2 []))
+
+abbrev pub ended : (line number ticks : ℕ) → Completion
+ended line number ticks = record { line = line; number = number; ticks = ticks; early = false }
+
+-- what ends before the first offer: two jobs of line 1, and the job of line 3 between them
+abbrev pub early-jobs : List Completion → List Completion
+early-jobs rest = ended 1 0 1 ∷ ended 3 0 4 ∷ ended 1 0 1 ∷ rest
+
 abbrev pub cases : List Case
 cases =
     -- a sporadic server between two tasks
@@ -70,6 +88,14 @@ cases =
     -- half of it leaves enough
     ∷ timed (task 1 4 4 0 ∷ server P 1 5 ∷ task 2 6 6 0 ∷ []) (1 ∷ 2 ∷ 4 ∷ []) passes
     ∷ longest
+    -- a polling server waits for its period, and then serves both requests
+    ∷ ran P (plan P) twice (1 ∷ 3 ∷ 3 ∷ 3 ∷ 1 ∷ 0 ∷ 0 ∷ 0 ∷ 1 ∷ 2 ∷ 2 ∷ 0 ∷ []) (early-jobs (ended 1 0 1 ∷ ended 2 1 4 ∷ []))
+    -- a deferrable server serves at once, and has its budget again at tick 8
+    ∷ ran D (plan D) twice (1 ∷ 3 ∷ 3 ∷ 3 ∷ 1 ∷ 0 ∷ 0 ∷ 2 ∷ 1 ∷ 2 ∷ 2 ∷ 0 ∷ []) (early-jobs (ended 1 0 1 ∷ ended 2 1 3 ∷ []))
+    -- a sporadic server serves at once, and has what it took again 8 ticks after it began to take it
+    ∷ ran S (plan S) twice (1 ∷ 3 ∷ 3 ∷ 3 ∷ 1 ∷ 0 ∷ 0 ∷ 2 ∷ 1 ∷ 2 ∷ 0 ∷ 0 ∷ []) (early-jobs (ended 1 0 1 ∷ ended 2 1 3 ∷ []))
+    -- a server on line 1 for which a request waits all the time runs its budget of 2 in each period of 5
+    ∷ ran P (server P 2 5 ∷ []) (offer 1 9 ∷ ticks 10 []) (1 ∷ 1 ∷ 0 ∷ 0 ∷ 0 ∷ 1 ∷ 1 ∷ 0 ∷ 0 ∷ 0 ∷ []) []
     -- a tick run opens a slice at that tick, and takes 1 of what is held
     ∷ told short (idle 3 [] 0 5) (end true ∷ []) (open-slice 2 [] 5 1 5)
     -- a second tick in a row goes to the same slice

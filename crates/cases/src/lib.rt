@@ -10,5 +10,5 @@ pub fn worked_cases() -> usize
     ensures number { λ r. ⌜ r ≡ length cases ⌝ }
     ensures hold { λ _. ⌜ All Holds cases ⌝ }
 {
-    18
+    22
 }
