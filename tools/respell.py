@@ -21,7 +21,7 @@ OTHER = {
 }
 
 TOKEN = re.compile(r"[^\s(){}\[\];,.⌜⌝\"]+")
-DEF = re.compile(r"^\s*(?:(?:abbrev|unfoldable|pub|instance|infix\w*|let)\s+)*([^\s(){}\[\];,.:=\"]+)\s*(?:[({][^:]*:.*[)}]\s*)*:\s")
+DEF = re.compile(r"^\s*(?:(?:abbrev|unfoldable|pub|instance|infix\w*|let)\s+)*([^\s(){}\[\];,.:=\"]+)\s*(?:[({][^:]*:.*[)}]\s*)*:(?:\s|$)")
 BOUND = re.compile(r"[({]([^(){}:]*) : ")
 
 

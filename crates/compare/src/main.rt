@@ -1,4 +1,6 @@
 // Holds a second implementation against the library, on drawn plans and drawn calls, and prints what was compared.
+#![tactic(auto)]
+
 mod admission;
 mod answer;
 mod draw;

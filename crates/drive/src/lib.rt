@@ -1,4 +1,6 @@
 // Many turns of a run through one entry for C, for measuring. The slice is passed as a pointer and then a length.
+#![tactic(auto)]
+
 mod calls;
 mod kinds;
 mod turns;

@@ -1,4 +1,6 @@
 // Reads a plan as text from standard input, and writes its bytes to standard output.
+#![tactic(auto)]
+
 use script::command::{Command, read};
 use script::lines::Lines;
 use script::records::Records;

@@ -1,4 +1,6 @@
 // The entry for a host written in C. Each slice is passed as a pointer and then a length.
+#![tactic(auto)]
+
 mod layout;
 
 ghost use Rattle.std.specs.Prelude.{◌≡◌, length};

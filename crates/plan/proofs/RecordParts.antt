@@ -12,12 +12,12 @@ number_rest : (bs : List ℕ) (k : ℕ) → number (rest bs) k ≡ number bs (4 
 number_rest bs k = simp (take_rest, get_or-drop, add_assoc)
 
 -- what the parts answer, the record decodes to
-pub decoded-parts :
+pub decoded_parts :
     (bs : List ℕ) → length bs ≡ 20 → (x : Decoded) →
     x ≡
     head (get_or bs 0 0) (get_or bs 1 0) (get_or bs 2 0) (get_or bs 3 0)
     (numbers (get_or bs 0 0) (number (rest bs) 0) (number (rest bs) 4) (number (rest bs) 8) (number (rest bs) 12)) →
     x ≡ decoded bs
 unfolding decoded
-decoded-parts bs long x e =
+decoded_parts bs long x e =
     rw long (rw (number_rest bs 0, number_rest bs 4, number_rest bs 8, number_rest bs 12) at e)

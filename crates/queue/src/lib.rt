@@ -1,4 +1,6 @@
 // A bounded queue over memory that the caller lends: the oldest item first, no heap.
+#![tactic(auto)]
+
 mod bounded;
 mod places;
 

@@ -1,4 +1,6 @@
 // Replays a plan and calls on its run from a text on standard input: every answer is a row on standard output.
+#![tactic(auto)]
+
 mod calls;
 mod rows;
 mod session;

@@ -1,4 +1,6 @@
 // Running an admitted plan tick by tick.
+#![tactic(auto)]
+
 pub mod answers;
 pub mod items;
 pub mod line;

@@ -1,4 +1,6 @@
 // Sample plans: what the planner answers on them, compared whole.
+#![tactic(auto)]
+
 #[cfg(test)]
 mod admission;
 #[cfg(test)]

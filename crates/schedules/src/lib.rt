@@ -1,4 +1,6 @@
 // Runs of sample plans: what each call answers, compared whole.
+#![tactic(auto)]
+
 #[cfg(test)]
 mod amounts;
 #[cfg(test)]

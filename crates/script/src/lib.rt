@@ -1,4 +1,6 @@
 // Plans and calls as text: what a line of it says.
+#![tactic(auto)]
+
 mod arguments;
 mod bytes;
 pub mod command;

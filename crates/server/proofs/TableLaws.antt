@@ -26,20 +26,20 @@ module _ (es : List Entry) (n : ℕ) (new : Entry) (len : length es ≡ 16) wher
     latest_le_total = omega (arith, entry_le_total es 15 d (omega arith), ap total (take_all n es (omega arith)))
 
 -- the oldest entry, and the rest of what is pending
-pub table-oldest :
+pub table_oldest :
     (es : List Entry) (n : ℕ) (d : Entry) → 1 ≤ n → n ≤ length es → take n es ≡ get_or es 0 d ∷ take (n - 1) (drop 1 es)
-table-oldest es zero d some within = absurd (omega arith)
-table-oldest [] (suc n) d some within = absurd (omega arith)
-table-oldest (e ∷ es) (suc n) d some within = ap (λ k. e ∷ take k es) (omega arith)
+table_oldest es zero d some within = absurd (omega arith)
+table_oldest [] (suc n) d some within = absurd (omega arith)
+table_oldest (e ∷ es) (suc n) d some within = ap (λ k. e ∷ take k es) (omega arith)
 
 module _ (es : List Entry) (n : ℕ) (within : n < length es) where
   front : length (take n (drop 1 es)) ≡ n
   front = length-take-le n (drop 1 es) (omega (arith, length-drop 1 es))
 
   -- one more entry is copied down
-  pub table-moves :
+  pub table_moves :
       (d : Entry) → n + 1 < length es → set (paste es 0 (drop 1 es) n) n (get_or (paste es 0 (drop 1 es) n) (n + 1) d) ≡ paste es 0 (drop 1 es) (n + 1)
-  table-moves d more =
+  table_moves d more =
       ap (λ x. set (paste es 0 (drop 1 es) n) n x) read
       ∙ ap (λ k. set (paste es 0 (drop 1 es) n) k (get_or (drop 1 es) n d)) (omega arith)
       ∙ paste_more es 0 (drop 1 es) n d (omega arith) (omega (arith, length-drop 1 es))

@@ -30,7 +30,7 @@ module _ (t : Terms) (fit : Fit t) (h : History) (possible : Possible sporadic t
         ap (runs h s) cut,
       )
 
-pub sporadic-ceiling-anywhere :
+pub sporadic_ceiling_anywhere :
     (t : Terms) → Fit t → (h : History) → Possible sporadic t h → (s n : ℕ) → runs h s n ≤ ceil_div n t.period * t.budget
-sporadic-ceiling-anywhere t fit h possible =
+sporadic_ceiling_anywhere t fit h possible =
     runs_periods h t.period t.budget (one_period t fit h possible) (omega (arith, fit.some, fit.within))

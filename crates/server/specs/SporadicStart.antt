@@ -15,23 +15,23 @@ abbrev Waits : ℕ → List Entry → Type 0
 Waits tick [] = Unit {0}
 Waits tick (e ∷ es) = e.due ≡ tick → ⊥
 
-waits-order :
+waits_order :
     (tick : ℕ) (es : List Entry) (hi : ℕ) → Waits tick es → suc tick ≤ hi → Between tick es hi → Between (suc tick) es hi
-waits-order tick [] hi w le b = omega arith
-waits-order tick (e ∷ es) hi w le b = (grind (arith, w, b.0), b.1)
+waits_order tick [] hi w le b = omega arith
+waits_order tick (e ∷ es) hi w le b = (grind (arith, w, b.0), b.1)
 
 -- the state at tick `tick` with this held and these entries
 abbrev at : SporadicState → ℕ → ℕ → List Entry → SporadicState
 at s tick held es = record { held = held; entries = es; first = s.first; slice = s.slice; tick = tick }
 
 -- the two ways in which a tick starts: no entry goes, or the oldest
-start-by :
+start_by :
     (t : Terms) (s : SporadicState) (tick : ℕ) (wanted : Bool) (P : SporadicState → Type 0) →
     (Waits tick s.entries → P (at s tick s.held s.entries)) →
     ((e : Entry) (es : List Entry) → s.entries ≡ e ∷ es → e.due ≡ tick →
     P (closed t (at s tick (s.held + e.amount) es))) →
     P (sporadic_begun t s tick wanted)
-start-by t s tick wanted P stays goes = by s.entries stays goes
+start_by t s tick wanted P stays goes = by s.entries stays goes
   where
     by : (all : List Entry) →
         (Waits tick all → P (at s tick s.held all)) →
@@ -63,7 +63,7 @@ module _ (t : Terms) (fit : Fit t) (tick : ℕ) (s : SporadicState) (x : Sound t
             opened = b.opened;
             sum = b.sum;
             few = b.few;
-            order = waits-order tick s.entries _ w (omega (arith, fit.some, fit.within)) b.order;
+            order = waits_order tick s.entries _ w (omega (arith, fit.some, fit.within)) b.order;
           };
           kept = x.kept;
         };
@@ -102,8 +102,8 @@ module _ (t : Terms) (fit : Fit t) (tick : ℕ) (s : SporadicState) (x : Sound t
       }
 
   pub starting : (wanted : Bool) → Start (sporadic_begun t s tick wanted)
-  starting wanted = start-by t s tick wanted Start stays goes
+  starting wanted = start_by t s tick wanted Start stays goes
 
 -- the tick is noted
 pub start_tick : (t : Terms) (s : SporadicState) (tick : ℕ) (wanted : Bool) → (sporadic_begun t s tick wanted).tick ≡ tick
-start_tick t s tick wanted = start-by t s tick wanted (λ s'. s'.tick ≡ tick) (λ _. refl) (λ _ _ _ _. refl)
+start_tick t s tick wanted = start_by t s tick wanted (λ s'. s'.tick ≡ tick) (λ _. refl) (λ _ _ _ _. refl)

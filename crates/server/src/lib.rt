@@ -1,4 +1,6 @@
 // Kinds of server: the trait, and the polling, the deferrable and the sporadic server.
+#![tactic(auto)]
+
 mod budget;
 pub mod deferrable;
 pub mod entry;

@@ -1,4 +1,6 @@
 // Reads a plan from standard input and prints the response time of each line, and a verdict.
+#![tactic(auto)]
+
 ghost use Rattle.std.specs.Prelude.{◌≤◌, length, IfOk};
 
 use report::shown::times_text;

@@ -4,15 +4,15 @@ use Rattle.drive.proofs.drive.Goals as goal
 
 pub returns-in-68 : goal.returns-in-68
 returns-in-68 c =
-    c.drive-deferrable.ensures
-    ∙ by_deferrable c.args.plan.now c.args.ticks c.args.amount c.args.places c.plan-letter.result c.plan-letter.ensures c.in-68.is
+    c.drive_deferrable.ensures
+    ∙ by_deferrable c.args.plan.now c.args.ticks c.args.amount c.args.places c.plan_letter.result c.plan_letter.ensures c.in-68.is
 
 pub returns-in-83 : goal.returns-in-83
 returns-in-83 c =
-    c.drive-sporadic.ensures
-    ∙ by_sporadic c.args.plan.now c.args.ticks c.args.amount c.args.places c.plan-letter.result c.plan-letter.ensures c.in-83.is
+    c.drive_sporadic.ensures
+    ∙ by_sporadic c.args.plan.now c.args.ticks c.args.amount c.args.places c.plan_letter.result c.plan_letter.ensures c.in-83.is
 
-pub returns-in-default : goal.returns-in-default
-returns-in-default c =
-    c.drive-polling.ensures
-    ∙ by_polling c.args.plan.now c.args.ticks c.args.amount c.args.places c.plan-letter.result c.plan-letter.ensures (λ e. omega arith) (λ e. omega arith)
+pub returns-in_default : goal.returns-in_default
+returns-in_default c =
+    c.drive_polling.ensures
+    ∙ by_polling c.args.plan.now c.args.ticks c.args.amount c.args.places c.plan_letter.result c.plan_letter.ensures (λ e. omega arith) (λ e. omega arith)

@@ -5,8 +5,8 @@ use Rattle.plan.specs.Records.{Fit}
 use Rattle.analysis.specs.Equation.{blank, own, share}
 use Rattle.analysis.proofs.equation.demand_of.Goals as goal
 
-pub share-of-sum-requires : goal.share-of-sum-requires
-share-of-sum-requires g c =
+pub share_of-sum-requires : goal.share_of-sum-requires
+share_of-sum-requires g c =
     record {
       fit = All-get_or Fit c.args.above.now c.loop-other.other-index blank c.loop-other-test.true c.requires.fit;
       window = c.requires.window;
@@ -15,7 +15,7 @@ share-of-sum-requires g c =
 pub loop-other-preserved : goal.loop-other-preserved
 loop-other-preserved g c =
     let more = sum_by_more (share g.S.Server.kind c.args.w) c.args.above.now c.loop-other.other-index blank c.loop-other-test.true in
-    (omega (arith, more, c.share-of-sum.ensures.value), omega (arith, c.share-of-sum.ensures.bound))
+    (omega (arith, more, c.share_of-sum.ensures.value), omega (arith, c.share_of-sum.ensures.bound))
 
 pub returns : goal.returns
 returns g c =

@@ -8,8 +8,8 @@ loop-w-preserved g c = (
   omega arith,
   λ v solves.
       let rises = demand_rises g.S.Server.kind g.met.S.Server.steady c.loop-w.w v (c.loop-w.invariant.1 v solves) c.args.above.now c.args.line.now c.requires.fit in
-      omega (arith, rises, solves.met, c.demand-of-next.ensures),
+      omega (arith, rises, solves.met, c.demand_of-next.ensures),
 )
 
 pub returns : goal.returns
-returns g c = λ v solves. omega (arith, c.loop-w.invariant.1 v solves, solves.within, c.limit-of-limit.ensures)
+returns g c = λ v solves. omega (arith, c.loop-w.invariant.1 v solves, solves.within, c.limit_of-limit.ensures)

@@ -6,8 +6,8 @@ use Rattle.plan.specs.Records.{Fit}
 use Rattle.analysis.specs.Equation.{blank}
 use Rattle.analysis.proofs.equation.response_time.Goals as goal
 
-pub least-solution-requires : goal.least-solution-requires
-least-solution-requires g c =
+pub least_solution-requires : goal.least_solution-requires
+least_solution-requires g c =
     record {
       fit = All-take Fit _ c.args.lines.now c.requires.fit;
       few = simp length-take (omega (arith, c.requires.few));
@@ -15,4 +15,4 @@ least-solution-requires g c =
     }
 
 pub returns : goal.returns
-returns g c = rw sub-zero at c.least-solution.ensures
+returns g c = rw sub-zero at c.least_solution.ensures

@@ -4,5 +4,5 @@ use Rattle.analysis.proofs.equation.share_of.Goals as goal
 
 pub returns-in-Task : goal.returns-in-Task
 returns-in-Task g c =
-    let product = mul-le c.ceil-div.result c.in-Task.task.work 4294967296 1000000 (search rules) (search rules) in
+    let product = mul-le c.ceil_div.result c.in-Task.task.work 4294967296 1000000 (search rules) (search rules) in
     record { value = search rules; bound = omega (arith, product) }

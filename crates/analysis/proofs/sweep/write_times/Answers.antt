@@ -13,9 +13,9 @@ pub loop-i-preserved : goal.loop-i-preserved
 loop-i-preserved g c =
     let k = g.S.Server.kind in
     let ls = c.args.lines.now in
-    let response = time_from_response k (take c.loop-i.i ls) (get_or ls c.loop-i.i blank) c.response-time.result c.response-time.ensures in
-    times_more k ls c.args.out.now c.loop-i.out c.loop-i.i c.unwrap-or.result c.loop-i-test.true c.requires.room
-    c.loop-i.invariant (c.unwrap-or.ensures ∙ sym response)
+    let response = time_from_response k (take c.loop-i.i ls) (get_or ls c.loop-i.i blank) c.response_time.result c.response_time.ensures in
+    times_more k ls c.args.out.now c.loop-i.out c.loop-i.i c.unwrap_or.result c.loop-i-test.true c.requires.room
+    c.loop-i.invariant (c.unwrap_or.ensures ∙ sym response)
 
 pub returns : goal.returns
 returns g c =

@@ -9,6 +9,6 @@ returns c =
     let at = c.args.at in
     let xs = c.args.out.now in
     let four : at + 4 - at ≡ 4 = omega arith in
-    ap (λ k. put_mid at k xs c.copy-from-slice.new.self) four
-    ∙ ap (λ ys. take at xs ++ (ys ++ drop 4 (drop at xs))) (c.copy-from-slice.ensures.after ∙ c.to-le-bytes.ensures)
+    ap (λ k. put_mid at k xs c.copy_from_slice.new.self) four
+    ∙ ap (λ ys. take at xs ++ (ys ++ drop 4 (drop at xs))) (c.copy_from_slice.ensures.after ∙ c.to_le_bytes.ensures)
     ∙ ap (λ zs. take at xs ++ (bytes c.args.n ++ zs)) (drop-drop 4 at xs)

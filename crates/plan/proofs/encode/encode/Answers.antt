@@ -10,8 +10,8 @@ both bs l e = record { exact = e; back = λ fit. rw e (decoded_encoded l fit) }
 
 pub returns-in-Task : goal.returns-in-Task
 unfolding encoded
-returns-in-Task c = both c.record-of.result c.args.line.now (search rules)
+returns-in-Task c = both c.record_of.result c.args.line.now (search rules)
 
 pub returns-in-Server : goal.returns-in-Server
 unfolding encoded
-returns-in-Server c = both c.record-of-in-Server.result c.args.line.now (search rules)
+returns-in-Server c = both c.record_of-in-Server.result c.args.line.now (search rules)

@@ -8,5 +8,5 @@ use Rattle.replay.proofs.rows.completion_row.Goals as goal
 pub returns : goal.returns
 unfolding completion_row
 returns c =
-    simp (c.push.ensures, c.push-labelled-4.ensures, c.flag.ensures, c.push-labelled-3.ensures, c.push-labelled-2.ensures, c.push-labelled.ensures, c.new-text.ensures, added_twice, append_assoc)
+    simp (c.push.ensures, c.push_labelled-4.ensures, c.flag.ensures, c.push_labelled-3.ensures, c.push_labelled-2.ensures, c.push_labelled.ensures, c.new-text.ensures, added_twice, append_assoc)
     (uncut _ (simp length-append (omega (arith, labelled_width (codes "completion ") c.args.completion.now.line (search rules), labelled_width (codes " ") c.args.completion.now.number (search rules), labelled_width (codes " ") c.args.completion.now.ticks (search rules), labelled_width (codes " ") (cond c.args.completion.now.early 1 0) (search rules)))))

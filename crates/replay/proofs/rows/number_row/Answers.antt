@@ -8,5 +8,5 @@ use Rattle.replay.proofs.rows.number_row.Goals as goal
 pub returns : goal.returns
 unfolding number_row
 returns c =
-    simp (c.push.ensures, c.push-labelled.ensures, c.new-text.ensures, added_twice)
+    simp (c.push.ensures, c.push_labelled.ensures, c.new-text.ensures, added_twice)
     (uncut _ (simp length-append (omega (arith, labelled_width c.args.word.now c.args.n (search rules), c.requires))))

@@ -8,5 +8,5 @@ use Rattle.replay.proofs.rows.server_row.Goals as goal
 pub returns : goal.returns
 unfolding report_row
 returns c =
-    simp (c.push.ensures, c.push-labelled-3.ensures, c.push-labelled-2.ensures, c.push-labelled.ensures, c.new-text.ensures, added_twice, append_assoc)
+    simp (c.push.ensures, c.push_labelled-3.ensures, c.push_labelled-2.ensures, c.push_labelled.ensures, c.new-text.ensures, added_twice, append_assoc)
     (uncut _ (simp length-append (omega (arith, labelled_width (codes "holds ") c.args.held (search rules), labelled_width (codes " waits ") c.args.waits (search rules), labelled_width (codes " needs ") c.args.needs (search rules)))))

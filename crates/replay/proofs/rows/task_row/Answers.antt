@@ -8,5 +8,5 @@ use Rattle.replay.proofs.rows.task_row.Goals as goal
 pub returns : goal.returns
 unfolding report_row
 returns c =
-    simp (c.push.ensures, c.push-labelled-2.ensures, c.push-labelled.ensures, c.new-text.ensures, added_twice, append_assoc)
+    simp (c.push.ensures, c.push_labelled-2.ensures, c.push_labelled.ensures, c.new-text.ensures, added_twice, append_assoc)
     (uncut _ (simp length-append (omega (arith, labelled_width (codes "work ") c.args.unfinished (search rules), labelled_width (codes " next ") c.args.next (search rules)))))

@@ -8,5 +8,5 @@ use Rattle.replay.proofs.rows.tick_row.Goals as goal
 pub returns : goal.returns
 unfolding tick_row
 returns c =
-    simp (c.push.ensures, c.push-hex.ensures, c.push-all.ensures, c.push-labelled-2.ensures, c.push-labelled.ensures, c.new-text.ensures, added_twice, append_assoc)
+    simp (c.push.ensures, c.push_hex.ensures, c.push_all.ensures, c.push_labelled-2.ensures, c.push_labelled.ensures, c.new-text.ensures, added_twice, append_assoc)
     (uncut _ (simp length-append (omega (arith, labelled_width (codes "tick ") c.args.ticked.now.number (search rules), labelled_width (codes " line ") c.args.ticked.now.line (search rules)))))

@@ -6,4 +6,4 @@ use Rattle.report.proofs.rows.push_fault.Goals as goal
 pub returns : goal.returns
 unfolding fault_row
 returns c =
-    simp (c.push.ensures, c.push-labelled-3.ensures, c.push-labelled-2.ensures, c.push-labelled.ensures, c.number.ensures, added_twice, append_assoc)
+    simp (c.push.ensures, c.push_labelled-3.ensures, c.push_labelled-2.ensures, c.push_labelled.ensures, c.number.ensures, added_twice, append_assoc)

@@ -6,4 +6,4 @@ use Rattle.report.proofs.rows.push_row.Goals as goal
 pub returns : goal.returns
 unfolding row
 returns c =
-    simp (c.push-4.ensures, c.push-time.ensures, c.push-3.ensures, c.push-2.ensures, c.push.ensures, c.push-number.ensures, added_twice, append_assoc)
+    simp (c.push-4.ensures, c.push_time.ensures, c.push-3.ensures, c.push-2.ensures, c.push.ensures, c.push_number.ensures, added_twice, append_assoc)

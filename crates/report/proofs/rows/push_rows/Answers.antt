@@ -6,7 +6,7 @@ use Rattle.report.proofs.rows.push_rows.Goals as goal
 
 pub loop-i-preserved : goal.loop-i-preserved
 loop-i-preserved c =
-    sym (rows_more c.args.plan.now c.args.times.now (written c.loop-i.text) (written c.push-row.new.text) c.loop-i.i c.loop-i-test.true c.push-row.ensures)
+    sym (rows_more c.args.plan.now c.args.times.now (written c.loop-i.text) (written c.push_row.new.text) c.loop-i.i c.loop-i-test.true c.push_row.ensures)
     ∙ c.loop-i.invariant
 
 pub returns : goal.returns

@@ -5,11 +5,11 @@ use Rattle.analysis.specs.Growth.{Served}
 use Rattle.report.proofs.Admitting.{not_read, not_passing, in_force}
 use Rattle.report.proofs.whole.admitted_plan.Goals as goal
 
-pub returns-in-default : goal.returns-in-default
-returns-in-default g c =
-    let f = c.in-default.field-0 in
+pub returns-in_default : goal.returns-in_default
+returns-in_default g c =
+    let f = c.in_default.field-0 in
     record {
-      lines = not_read g.S.Server.kind c.args.bytes.now (number_of f.refusal) f.«record» f.byte c.in-default.ensures.answered;
+      lines = not_read g.S.Server.kind c.args.bytes.now (number_of f.refusal) f.«record» f.byte c.in_default.ensures.answered;
       served = tt;
     }
 

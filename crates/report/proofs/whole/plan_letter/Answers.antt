@@ -9,16 +9,16 @@ pub loop-i-init : goal.loop-i-init
 unfolding plan_letter
 loop-i-init c = ap (server_from c.args.plan.now 0) (sub-zero (length c.args.plan.now / 20))
 
-pub returns-then-is-server : goal.returns-then-is-server
-returns-then-is-server c =
+pub returns-then-is_server : goal.returns-then-is_server
+returns-then-is_server c =
     let bs = c.args.plan.now in
-    sym (cond-true _ _ _ (sym c.if-is-server.ensures))
+    sym (cond-true _ _ _ (sym c.if-is_server.ensures))
     ∙ sym (server_step bs c.loop-i.i (length bs / 20) c.loop-i-test.true)
     ∙ c.loop-i.invariant
 
 pub loop-i-preserved : goal.loop-i-preserved
 loop-i-preserved c =
     let bs = c.args.plan.now in
-    sym (cond-false _ _ _ (sym c.if-is-server.ensures))
+    sym (cond-false _ _ _ (sym c.if-is_server.ensures))
     ∙ sym (server_step bs c.loop-i.i (length bs / 20) c.loop-i-test.true)
     ∙ c.loop-i.invariant

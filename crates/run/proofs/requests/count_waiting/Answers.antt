@@ -5,9 +5,9 @@ use Rattle.run.proofs.requests.count_waiting.Goals as goal
 
 pub loop-request-preserved : goal.loop-request-preserved
 loop-request-preserved c =
-    let b = c.waits-for.result in (
+    let b = c.waits_for.result in (
       sum_more (λ r. cond (waits_for c.args.line r) 1 0) c.args.requests.now c.loop-request.request-index c.loop-request.count c.loop-request.invariant.0 _ _
-          c.loop-request-test.true (byte_cond b ∙ ap (λ t. cond t 1 0) c.waits-for.ensures),
+          c.loop-request-test.true (byte_cond b ∙ ap (λ t. cond t 1 0) c.waits_for.ensures),
       omega (arith, byte_most b),
     )
 

@@ -11,15 +11,15 @@ pub loop-i-preserved : goal.loop-i-preserved
 loop-i-preserved g c =
     let v = view g.S.Server in
     let none : ready_by (wanted (c.loop-i.i + 1) c.args.requests.now) (v c.index-rows-i.result) ≡ false =
-    sym (c.if-is-ready.ensures ∙ ap (λ w. ready_by w (v c.index-rows-i.result)) (c.wanted-lines-wants.ensures c.loop-i.i (omega (arith, c.loop-i-test.true, c.requires)))) in
+    sym (c.if-is_ready.ensures ∙ ap (λ w. ready_by w (v c.index-rows-i.result)) (c.wanted_lines-wants.ensures c.loop-i.i (omega (arith, c.loop-i-test.true, c.requires)))) in
     sym (first_more v c.args.requests.now c.args.rows.now c.loop-i.i c.index-rows-i.result c.loop-i-test.true c.index-rows-i.is ∙ cond-false _ _ _ none)
     ∙ c.loop-i.invariant
 
-pub returns-then-is-ready : goal.returns-then-is-ready
-returns-then-is-ready g c =
+pub returns-then-is_ready : goal.returns-then-is_ready
+returns-then-is_ready g c =
     let v = view g.S.Server in
     let ready : ready_by (wanted (c.loop-i.i + 1) c.args.requests.now) (v c.index-rows-i.result) ≡ true =
-    sym (c.if-is-ready.ensures ∙ ap (λ w. ready_by w (v c.index-rows-i.result)) (c.wanted-lines-wants.ensures c.loop-i.i (omega (arith, c.loop-i-test.true, c.requires)))) in
+    sym (c.if-is_ready.ensures ∙ ap (λ w. ready_by w (v c.index-rows-i.result)) (c.wanted_lines-wants.ensures c.loop-i.i (omega (arith, c.loop-i-test.true, c.requires)))) in
     sym (first_more v c.args.requests.now c.args.rows.now c.loop-i.i c.index-rows-i.result c.loop-i-test.true c.index-rows-i.is ∙ cond-true _ _ _ ready)
     ∙ c.loop-i.invariant
 

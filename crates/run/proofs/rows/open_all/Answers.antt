@@ -10,7 +10,7 @@ loop-i-preserved g c =
     let v = view g.S.Server in
     let told : v c.open.new.self ≡ opened_by c.args.time (wanted (c.loop-i.i + 1) c.args.requests.now) (v c.index-rows-i-in-loop-i.result) =
     let e = c.open.ensures in
-    let w = c.wanted-lines-wants.ensures c.loop-i.i (omega (arith, c.loop-i-test.true, c.requires)) in
+    let w = c.wanted_lines-wants.ensures c.loop-i.i (omega (arith, c.loop-i-test.true, c.requires)) in
     search rules in
     seen_more (view g.S.Server) (opened c.args.time c.args.requests.now) c.args.rows.now c.loop-i.rows c.loop-i.i c.index-rows-i-in-loop-i.result c.open.new.self
     c.loop-i.invariant c.index-rows-i-in-loop-i.is

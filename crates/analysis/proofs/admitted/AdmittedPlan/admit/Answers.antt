@@ -6,11 +6,11 @@ use Rattle.analysis.proofs.admitted.AdmittedPlan.admit.Goals as goal
 pub returns : goal.returns
 returns g c =
     let k = g.S.Server.kind in
-    let plan = c.take-over.ensures.plan in
+    let plan = c.take_over.ensures.plan in
     record {
       answered = search rules;
-      draft-after = c.take-over.ensures.rest;
+      draft-after = c.take_over.ensures.rest;
       plan_after = plan;
-      passing = λ before. subst (AllPass k) (sym plan) c.in-ok-check.ensures.says;
+      passing = λ before. subst (AllPass k) (sym plan) c.in_ok-check.ensures.says;
       served = λ draft before. subst (Served k) (sym plan) draft;
     }

@@ -11,14 +11,14 @@ use Rattle.analysis.proofs.draft.Draft.add.Goals as goal
 pub put-requires : goal.put-requires
 put-requires g c =
     let d = c.args.self.now in
-    let grants = added_grants g.S.Server.kind (lines d) c.args.bytes.now c.in-ok-line.line (sym c.in-ok-line.ensures) in
+    let grants = added_grants g.S.Server.kind (lines d) c.args.bytes.now c.in_ok-line.line (sym c.in_ok-line.ensures) in
     record { fit = grants.fit; room = omega (arith, grants.room, lines_length d) }
 
 pub returns : goal.returns
 returns g c =
     let d = c.args.self.now in
-    let l = c.in-ok-line.line in
-    let is = sym c.in-ok-line.ensures in
+    let l = c.in_ok-line.line in
+    let is = sym c.in_ok-line.ensures in
     let grants = added_grants g.S.Server.kind (lines d) c.args.bytes.now l is in
     let long = sym (lines_length c.put.new.self) ∙ ap length c.put.ensures ∙ length_push (lines d) l in
     record {

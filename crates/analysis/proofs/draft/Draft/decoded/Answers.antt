@@ -11,10 +11,10 @@ loop-i-preserved g c =
     let all = c.loop-i.all in
     let rs = c.args.self.now.records in
     let more = map_more line_of rs i [] (omega (arith, c.args.self.now.places, c.args.self.now.few)) in (
-      length-set all i c.line-of.result ∙ inv.0,
-      take_more_set all i c.line-of.result (omega (arith, inv.0, c.args.self.now.few))
-          ∙ ap (λ xs. xs ++ (c.line-of.result ∷ [])) inv.1
-          ∙ ap (λ x. map line_of (take i rs) ++ (x ∷ [])) c.line-of.ensures
+      length-set all i c.line_of.result ∙ inv.0,
+      take_more_set all i c.line_of.result (omega (arith, inv.0, c.args.self.now.few))
+          ∙ ap (λ xs. xs ++ (c.line_of.result ∷ [])) inv.1
+          ∙ ap (λ x. map line_of (take i rs) ++ (x ∷ [])) c.line_of.ensures
           ∙ sym more,
     )
 

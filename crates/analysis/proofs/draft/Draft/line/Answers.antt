@@ -7,8 +7,8 @@ pub returns-then-place-self : goal.returns-then-place-self
 returns-then-place-self g c =
     let d = c.args.self.now in
     record {
-      value = ap Some c.line-of.ensures ∙ sym (lines_at d c.args.place c.if-place-self.true);
-      fit = subst Fit (sym c.line-of.ensures) (lines_at_fit d c.args.place c.if-place-self.true);
+      value = ap Some c.line_of.ensures ∙ sym (lines_at d c.args.place c.if-place-self.true);
+      fit = subst Fit (sym c.line_of.ensures) (lines_at_fit d c.args.place c.if-place-self.true);
     }
 
 pub returns-else-place-self : goal.returns-else-place-self

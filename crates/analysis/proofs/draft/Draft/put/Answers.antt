@@ -6,8 +6,8 @@ use Rattle.analysis.specs.Stored.{decodable, line_in, line_of}
 use Rattle.analysis.proofs.StoredLines.{decodable_push}
 use Rattle.analysis.proofs.draft.Draft.put.Goals as goal
 
-pub invariant-of-self : goal.invariant-of-self
-invariant-of-self g c =
+pub invariant_of-self : goal.invariant_of-self
+invariant_of-self g c =
     let d = c.args.self.now in
     let more = take_more_set d.records d.count c.encode.result (omega (arith, d.places, c.requires.room)) in (
       length-set d.records d.count c.encode.result ∙ d.places,

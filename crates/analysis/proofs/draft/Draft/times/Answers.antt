@@ -10,8 +10,8 @@ returns-then-out-self g c =
     let short : leb (length (lines d)) (length c.args.out.now) ≡ false = lt-leb _ _ (omega (arith, lines_length d)) in
     record { answered = sym (cond-false _ _ _ short); after = sym (cond-false _ _ _ short) }
 
-pub write-times-requires : goal.write-times-requires
-write-times-requires g c =
+pub write_times-requires : goal.write_times-requires
+write_times-requires g c =
     let d = c.args.self.now in
     let is = part_is d c.decoded-all.result c.decoded-all.ensures in
     record { fit = part_fit d _ is; few = part_few d _ is; room = omega (arith, ap length is ∙ lines_length d) }

@@ -5,7 +5,7 @@ use Rattle.run.specs.Rows.{fresh}
 use Rattle.run.specs.Views.{view}
 use Rattle.run.proofs.Starting.{placed, not_past}
 use Rattle.run.proofs.run.start.fresh_rows.Goals as goal
-use Rattle.run.proofs.run.start.fresh_rows.Goals.{in-Some, in-default}
+use Rattle.run.proofs.run.start.fresh_rows.Goals.{in-Some, in_default}
 
 pub loop-i-preserved : goal.loop-i-preserved
 loop-i-preserved g c =
@@ -19,7 +19,7 @@ loop-i-preserved g c =
             ∙ placed v fresh ls c.loop-i.rows c.loop-i.i c.loop-i.invariant.1 here w.in-Some.line w.fresh.result
             (omega (arith, c.loop-i.invariant.0, c.requires.few)) (sym c.line.ensures.value ∙ w.in-Some.is) w.fresh.ensures,
       )
-      | in-default w ↦ absurd (not_past ls c.loop-i.i here (sym c.line.ensures.value ∙ w.in-default.is))
+      | in_default w ↦ absurd (not_past ls c.loop-i.i here (sym c.line.ensures.value ∙ w.in_default.is))
     ]
 
 pub returns : goal.returns

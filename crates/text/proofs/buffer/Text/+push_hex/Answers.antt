@@ -9,9 +9,9 @@ pub returns-then-count-gt0 : goal.returns-then-count-gt0
 returns-then-count-gt0 t c =
     let all = written c.args.self.now in
     c.push.ensures
-    ∙ ap (λ xs. take room (xs ++ (c.hex-digit.result ∷ []))) c.push-hex.ensures
-    ∙ added_twice all (hex (c.args.count - 1) (c.args.n / 16)) (c.hex-digit.result ∷ [])
-    ∙ ap (λ d. take room (all ++ (hex (c.args.count - 1) (c.args.n / 16) ++ (d ∷ [])))) c.hex-digit.ensures
+    ∙ ap (λ xs. take room (xs ++ (c.hex_digit.result ∷ []))) c.push_hex.ensures
+    ∙ added_twice all (hex (c.args.count - 1) (c.args.n / 16)) (c.hex_digit.result ∷ [])
+    ∙ ap (λ d. take room (all ++ (hex (c.args.count - 1) (c.args.n / 16) ++ (d ∷ [])))) c.hex_digit.ensures
     ∙ sym (ap (λ xs. take room (all ++ xs)) (hex_step c.args.count c.args.n c.if-count-gt0.true))
 
 pub returns-else-count-gt0 : goal.returns-else-count-gt0

@@ -1,4 +1,4 @@
 use Rattle.text.proofs.buffer.Text.+push_long.Given as goal
 
-abbrev pub decreases-push-long : goal.decreases-push-long
-decreases-push-long l = l.n
+abbrev pub decreases-push_long : goal.decreases-push_long
+decreases-push_long l = l.n
