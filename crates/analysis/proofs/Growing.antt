@@ -2,6 +2,7 @@
 use Rattle.std.proofs.Common.{◌≡◌, ℕ, suc, ◌+◌, ◌<◌, true, false, not, ◌||◌, List, [], length, sym, refl, ap, ◌∙◌, arith, rules}
 use Rattle.std.proofs.ByRecursion.{All-push}
 use Rattle.server.specs.Kind.{Kind}
+use Rattle.server.specs.declared.kind.Server.{Ghosts}
 use Rattle.plan.specs.Answers.{Answer, granted, refused, placed}
 use Rattle.plan.specs.Records.{Decoded, line, fault, decoded, Fit}
 use Rattle.plan.specs.declared.line.Line.{Line}
@@ -40,6 +41,6 @@ module _ (k : Kind) (ls : List Line) (bs : List ℕ) where
   added_grants l e = grants l (decoded bs) refl e
 
 -- of a draft
-pub added_to : (k : Kind) {S : Type 0} (d : Draft S) (bs : List ℕ) (server_count : ℕ) → server_count ≡ servers (lines d) → (a : Answer Line) → a ≡ placed (d.count + 1) (decoded bs)
+pub added_to : (k : Kind) {S : Type 0} {g : Ghosts S} (d : Draft S g) (bs : List ℕ) (server_count : ℕ) → server_count ≡ servers (lines d) → (a : Answer Line) → a ≡ placed (d.count + 1) (decoded bs)
     → added k (lines d) bs ≡ joins_if k d.count server_count a
 added_to k d bs server_count many a is = added_from k (lines d) bs d.count server_count (sym (lines_length d)) many a is

@@ -6,6 +6,7 @@ use Rattle.std.proofs.ByRecursion.{All-get_or}
 use Rattle.std.proofs.lemmas.List.{length-map, length-take-le, get_or-map, get_or-take}
 use Rattle.std.proofs.lemmas.Option.{slice_get-get_or, slice_get_past}
 use Rattle.std.proofs.lemmas.Bool.{and_parts, and_from, false≢true}
+use Rattle.server.specs.declared.kind.Server.{Ghosts}
 use Rattle.plan.specs.Records.{Decoded, line, fault, decoded, Fit}
 use Rattle.plan.specs.declared.line.Line.{Line}
 use Rattle.plan.proofs.DecodedLine.{decoded_fit}
@@ -31,7 +32,7 @@ decodable_push (r ∷ rs) bs l ok is =
     let both = and_parts (is_line (decoded r)) (decodable rs) ok in
     and_from (is_line (decoded r)) (decodable (rs ++ (bs ∷ []))) both.0 (decodable_push rs bs l both.1 is)
 
-module _ {S : Type 0} (d : Draft S) where
+module _ {S : Type 0} {g : Ghosts S} (d : Draft S g) where
   pub lines_fit : All Fit (lines d)
   unfolding lines
   lines_fit = records_fit (take d.count d.records) d.good

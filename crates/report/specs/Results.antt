@@ -1,5 +1,6 @@
 -- What is answered for a whole plan.
 use Rattle.std.specs.Prelude.{ℕ, cond, List, ◌++◌, length, drop, Some, None, Ok, Err, Option, Result, nat_le}
+use Rattle.server.specs.declared.kind.Server.{Ghosts}
 use Rattle.server.specs.Kind.{Kind}
 use Rattle.plan.specs.Answers.{Answer, granted, refused, number_of}
 use Rattle.plan.specs.declared.fault.Fault.{Fault}
@@ -11,7 +12,7 @@ use Rattle.analysis.specs.declared.draft.Draft.{Draft}
 use Rattle.report.specs.Plans.{plan_for, plan_letter, kind_of}
 
 -- a draft that was read, by its lines
-abbrev pub drafted : {S : Type 0} → Result (Draft S) Fault → Answer (List Line)
+abbrev pub drafted : {S : Type 0} {g : Ghosts S} → Result (Draft S g) Fault → Answer (List Line)
 drafted (Ok d) = granted (lines d)
 drafted (Err f) = refused (number_of f.refusal) f.«record» f.byte
 

@@ -10,7 +10,7 @@ use Rattle.run.specs.Machine.{Machine}
 use Rattle.run.specs.Views.{view}
 
 -- the state of a run with these queues, its servers by their meaning g
-abbrev pub machine : {S : Type 0} (g : Ghosts S) → Run S → Queue Request → Queue Completion → Machine g.kind
+abbrev pub machine : {S : Type 0} (g : Ghosts S) → Run S g → Queue Request → Queue Completion → Machine g.kind
 machine g r requests completions = record {
   time = r.time;
   rows = map (view g) (take r.count r.rows);

@@ -9,7 +9,7 @@ returns g c =
     let plan = c.take_over.ensures.plan in
     record {
       answered = search rules;
-      draft-after = c.take_over.ensures.rest;
+      draft_after = c.take_over.ensures.rest;
       plan_after = plan;
       passing = λ before. subst (AllPass k) (sym plan) c.in_ok-check.ensures.says;
       served = λ draft before. subst (Served k) (sym plan) draft;

@@ -9,17 +9,13 @@ use Rattle.analysis.proofs.draft.Draft.put.Goals as goal
 pub invariant_of-self : goal.invariant_of-self
 invariant_of-self g c =
     let d = c.args.self.now in
-    let more = take_more_set d.records d.count c.encode.result (omega (arith, d.places, c.requires.room)) in (
-      length-set d.records d.count c.encode.result ∙ d.places,
-      (
-        omega (arith, c.requires.room),
-        (
-          subst (λ rs. decodable rs ≡ true) (sym more)
-              (decodable_push (take d.count d.records) c.encode.result c.args.line.now d.good (c.encode.ensures.back c.requires.fit)),
-          tt,
-        ),
-      ),
-    )
+    let more = take_more_set d.records d.count c.encode.result (omega (arith, d.places, c.requires.room)) in
+    record {
+      places = length-set d.records d.count c.encode.result ∙ d.places;
+      few = omega (arith, c.requires.room);
+      good = subst (λ rs. decodable rs ≡ true) (sym more)
+          (decodable_push (take d.count d.records) c.encode.result c.args.line.now d.good (c.encode.ensures.back c.requires.fit));
+    }
 
 pub returns : goal.returns
 unfolding lines
