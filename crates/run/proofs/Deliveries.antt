@@ -54,4 +54,4 @@ module _ {k : Kind} (m : Machine k) where
 pub delivered : {k : Kind} (m : Machine k) → m.completed ≡ [] → (cs : List Call) → Delivered m cs
 delivered m none [] = none
 delivered m none (c ∷ cs) =
-    rw (append_assoc, call_queues (after m cs) c, ← append_assoc, delivered m none cs, map-append, map-map, map-id)
+    rw (append_assoc, call_queues (after m cs) c, ← append_assoc, delivered m none cs)

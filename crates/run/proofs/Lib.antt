@@ -31,5 +31,6 @@ pub mod Sums
 pub mod TaskBound
 pub mod TaskSteps
 pub mod Ticking
+pub mod Untimed
 pub mod Waiting
 pub mod Windows

@@ -6,7 +6,7 @@ pub loop-i-preserved : goal.loop-i-preserved
 loop-i-preserved g c =
     let m = machine g.S.Server c.args.run.now c.args.requests.now c.args.completions.now in
     let a = machine g.S.Server c.loop-i.run c.loop-i.requests c.loop-i.completions in
-    let t = c.turn_value_is.ensures in (
+    let t = c.turn-value.ensures in (
       sum_more c.args.lines c.args.amount c.loop-i.i m a _ _ _ c.loop-i.invariant.0 c.loop-i.invariant.1 t.value c.add-sum.ensures,
       after_more c.args.lines c.args.amount c.loop-i.i m a _ c.loop-i.invariant.1 t.after,
     )

@@ -1,8 +1,8 @@
 use Rattle.std.proofs.Common.{sym, subst}
 use Rattle.analysis.proofs.StoredLines.{lines_fit}
 use Rattle.analysis.specs.Admission.{plan_lines}
-use Rattle.run.specs.Promises.{Law}
-use Rattle.run.proofs.RunLaw.{law}
+use Rattle.run.specs.Promises.{Law, Timing}
+use Rattle.run.proofs.RunLaw.{law, timing}
 use Rattle.run.proofs.run.Run.start.Goals as goal
 
 pub returns : goal.returns
@@ -13,4 +13,7 @@ returns g c =
       law = λ served.
           subst (Law g.S.Server.kind ls) (sym c.begin.ensures)
           (law g.S.Server.kind g.met.S.Server.lawful ls (lines_fit c.args.plan.plan) served _ _);
+      timing = λ served.
+          subst (Timing g.S.Server.kind ls) (sym c.begin.ensures)
+          (timing g.S.Server.kind g.met.S.Server.lawful ls (lines_fit c.args.plan.plan) served _ _);
     }
