@@ -1,5 +1,5 @@
 -- Counting up from 1 finds the least solution: the response time as a number is the one of the relation.
-use Rattle.std.proofs.Common.{◌≡◌, ℕ, zero, suc, ◌+◌, ◌<◌, ◌≤◌, Bool, true, false, cond, leb, List, is_some, Some, None, Option, unwrap_or, sym, refl, ◌∙◌, ⊎_elim, arith}
+use Rattle.std.proofs.Common.{◌≡◌, ℕ, zero, suc, ◌+◌, ◌<◌, ◌≤◌, Bool, true, false, leb, List, is_some, Some, None, Option, unwrap_or, sym, refl, ◌∙◌, ⊎_elim, arith}
 use Rattle.std.proofs.lemmas.Bool.{cases_order, cases_Bool, cond-true, cond-false, le-leb, leb-true, both_ways, true≢false, false≢true}
 use Rattle.server.specs.Kind.{Kind}
 use Rattle.plan.specs.declared.line.Line.{Line}

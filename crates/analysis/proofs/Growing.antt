@@ -1,14 +1,13 @@
 -- What is known of a line that a record adds.
-use Rattle.std.proofs.Common.{◌≡◌, ℕ, suc, ◌+◌, ◌<◌, true, false, not, ◌||◌, List, [], length, sym, refl, ap, ◌∙◌, arith, rules}
-use Rattle.std.proofs.ByRecursion.{All-push}
+use Rattle.std.proofs.Common.{◌≡◌, ℕ, suc, ◌+◌, ◌<◌, true, List, length, sym, refl, ap, arith, rules}
 use Rattle.server.specs.Kind.{Kind}
 use Rattle.server.specs.declared.kind.Server.{Ghosts}
-use Rattle.plan.specs.Answers.{Answer, granted, refused, placed}
+use Rattle.plan.specs.Answers.{Answer, granted, placed}
 use Rattle.plan.specs.Records.{Decoded, line, fault, decoded, Fit}
 use Rattle.plan.specs.declared.line.Line.{Line}
 use Rattle.plan.proofs.DecodedLine.{decoded_fit}
 use Rattle.analysis.specs.Drafts.{lines}
-use Rattle.analysis.specs.Growth.{is_server_line, servers, served, joins, joins_if, added, grown, numbered, Served}
+use Rattle.analysis.specs.Growth.{servers, served, joins, joins_if, added}
 use Rattle.analysis.specs.declared.draft.Draft.{Draft}
 use Rattle.analysis.proofs.StoredLines.{lines_length}
 

@@ -1,12 +1,12 @@
 -- A verdict names the first line that has no response time.
-use Rattle.std.proofs.Common.{◌≡◌, ℕ, zero, suc, ◌+◌, ◌-◌, ◌<◌, ◌≤◌, eqb, ◌⊎◌, List, [], ◌∷◌, length, get_or, take, sym, refl, ap, ◌∙◌, subst, inl, inr, ⊎_elim, arith}
+use Rattle.std.proofs.Common.{◌≡◌, ℕ, zero, suc, ◌+◌, ◌-◌, ◌<◌, eqb, ◌⊎◌, List, [], ◌∷◌, length, get_or, take, sym, refl, ap, ◌∙◌, subst, inl, inr, ⊎_elim, arith}
 use Rattle.std.proofs.lemmas.Bool.{cases_eq, cond-true, cond-false, eq-eqb, ne_eqb}
 use Rattle.server.specs.Kind.{Kind}
 use Rattle.plan.specs.declared.line.Line.{Line}
 use Rattle.analysis.specs.Equation.{blank}
 use Rattle.analysis.specs.Response.{time_of}
 use Rattle.analysis.specs.Times.{times}
-use Rattle.analysis.specs.Verdicts.{Verdict, passes, fails, verdict_from, verdict, Passes, Judges}
+use Rattle.analysis.specs.Verdicts.{passes, fails, verdict_from, verdict, Passes, Judges}
 use Rattle.analysis.proofs.Counting.{time_zero, time_solves}
 use Rattle.analysis.proofs.Sweeps.{times_length, times_at}
 

@@ -1,6 +1,6 @@
 -- The times of a plan, one line after the other.
 use Rattle.std.proofs.Common.{◌≡◌, ℕ, zero, suc, ◌+◌, ◌<◌, ◌≤◌, List, [], ◌∷◌, ◌++◌, length, get_or, take, drop, set, sym, refl, ap, ◌∙◌, append_assoc, arith}
-use Rattle.std.proofs.lemmas.List.{take_more, drop_more, set_at, length_push, length-take-le, append-nil}
+use Rattle.std.proofs.lemmas.List.{take_more, drop_more, set_at, length-take-le, append-nil}
 use Rattle.server.specs.Kind.{Kind}
 use Rattle.plan.specs.declared.line.Line.{Line}
 use Rattle.analysis.specs.Equation.{blank}

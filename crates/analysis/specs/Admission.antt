@@ -1,5 +1,5 @@
 -- Admission: the lines of a draft that passes take the place of an admitted plan's.
-use Rattle.std.specs.Prelude.{ℕ, List, []}
+use Rattle.std.specs.Prelude.{List, []}
 use Rattle.server.specs.declared.kind.Server.{Ghosts}
 use Rattle.plan.specs.declared.line.Line.{Line}
 use Rattle.analysis.specs.Drafts.{lines}

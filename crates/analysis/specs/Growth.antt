@@ -3,7 +3,7 @@ use Rattle.std.specs.Prelude.{◌≡◌, ℕ, suc, Bool, true, false, not, ◌||
 use Rattle.std.specs.List.{AllByRecursion as All}
 use Rattle.server.specs.Kind.{Kind}
 use Rattle.plan.specs.Answers.{Answer, granted, refused, placed}
-use Rattle.plan.specs.Records.{decoded, letter_of}
+use Rattle.plan.specs.Records.{decoded}
 use Rattle.plan.specs.declared.line.Line.{Line}
 use Rattle.plan.specs.declared.line.Line.TheVariants.{Task, Server}
 

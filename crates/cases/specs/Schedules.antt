@@ -1,5 +1,5 @@
 -- Schedules: what the ticks of a run choose, and what ends, as calls are tried one after the other.
-use Rattle.std.specs.Prelude.{ℕ, zero, suc, true, false, List, [], ◌∷◌, ◌++◌}
+use Rattle.std.specs.Prelude.{ℕ, zero, suc, List, [], ◌∷◌, ◌++◌}
 use Rattle.server.specs.Kind.{Kind}
 use Rattle.run.specs.declared.items.Completion.{Completion}
 use Rattle.run.specs.Machine.{Machine, Tick, ticked}

@@ -1,5 +1,5 @@
 -- The kind by which a whole plan is read, and the times of its lines.
-use Rattle.std.proofs.Common.{◌≡◌, ℕ, suc, ◌+◌, ◌-◌, ◌*◌, ◌<◌, Bool, true, false, cond, eqb, leb, List, ◌++◌, length, get_or, drop, Result, sym, refl, ap, ◌∙◌, add-one, arith}
+use Rattle.std.proofs.Common.{◌≡◌, ℕ, suc, ◌+◌, ◌-◌, ◌*◌, ◌<◌, false, cond, eqb, leb, List, ◌++◌, length, get_or, drop, Result, sym, ap, ◌∙◌, add-one, arith}
 use Rattle.std.proofs.lemmas.Bool.{eq-eqb, ne_eqb}
 use Rattle.server.specs.Kind.{Kind}
 use Rattle.server.specs.DeferrableKind.{deferrable}

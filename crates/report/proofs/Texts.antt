@@ -1,5 +1,5 @@
 -- The rows that were written are the text of the plan.
-use Rattle.std.proofs.Common.{◌≡◌, ℕ, ◌^◌, ◌<◌, ◌≤◌, List, [], ◌++◌, length, take, sym, ap, ◌∙◌, arith}
+use Rattle.std.proofs.Common.{◌≡◌, ℕ, ◌^◌, ◌<◌, ◌≤◌, List, [], ◌++◌, take, sym, ap, ◌∙◌, arith}
 use Rattle.text.specs.Written.{room}
 use Rattle.text.proofs.Cuts.{added_twice, uncut}
 use Rattle.plan.specs.Answers.{granted, refused, number_of}

@@ -1,11 +1,11 @@
 -- The text of a plan fits its room.
-use Rattle.std.proofs.Common.{◌≡◌, ℕ, suc, ◌+◌, ◌*◌, ◌^◌, ◌<◌, ◌≤◌, cond, eqb, List, [], ◌∷◌, ◌++◌, length, get_or, codes, decimal, sym, refl, ap, ◌∙◌, arith, lit<}
+use Rattle.std.proofs.Common.{ℕ, suc, ◌+◌, ◌*◌, ◌^◌, ◌<◌, ◌≤◌, eqb, List, [], ◌∷◌, ◌++◌, length, get_or, codes, decimal, arith, lit<}
 use Rattle.std.specs.List.{AllByRecursion as All}
 use Rattle.std.proofs.lemmas.Fmt.{length-decimal-le}
 use Rattle.std.proofs.lemmas.List.{length-append}
 use Rattle.std.proofs.lemmas.Bool.{cond_both}
-use Rattle.analysis.specs.Verdicts.{Verdict, passes, fails, verdict_from}
-use Rattle.report.specs.Rows.{row, rows, shown_time, labelled, verdict_row, fault_row, feed}
+use Rattle.analysis.specs.Verdicts.{fails, verdict_from}
+use Rattle.report.specs.Rows.{row, rows, shown_time, labelled, verdict_row, fault_row}
 
 time_width : (t : ℕ) → t ≤ 1000000 → length (shown_time t) ≤ 7
 time_width t small =

@@ -1,8 +1,6 @@
 -- Every completion made has been fetched, or still waits in the queue.
-use Rattle.std.proofs.Common.{◌≡◌, ℕ, true, false, cond, ◌||◌, eqb, ltb, leb, List, [], ◌∷◌, ◌++◌, drop, Some, None, Option, sym, refl, ◌∙◌, append_assoc, append-nil, map-id}
-use mathlib.Core.List.{map-append}
+use Rattle.std.proofs.Common.{◌≡◌, ℕ, true, false, cond, ◌||◌, eqb, ltb, leb, List, [], ◌∷◌, ◌++◌, drop, Some, None, Option, sym, refl, ◌∙◌, append_assoc, append-nil}
 use Rattle.std.specs.List.{slice_get}
-use Rattle.std.proofs.lemmas.Simd.{map-map}
 use Rattle.server.specs.Kind.{Kind}
 use Rattle.run.specs.declared.items.Completion.{Completion}
 use Rattle.run.specs.Answers.{listed}

@@ -1,6 +1,5 @@
 -- The completions made, without the times at which they were made.
-use Rattle.std.proofs.Common.{◌≡◌, ℕ, suc, ◌≤◌, true, false, Bool, ◌&&◌, cond, eqb, List, [], ◌∷◌, ◌++◌, map, Some, sym, refl, ap, ◌∙◌}
-use Rattle.std.specs.Prelude.{filter}
+use Rattle.std.proofs.Common.{◌≡◌, ℕ, suc, true, false, Bool, ◌&&◌, cond, eqb, List, [], ◌∷◌, ◌++◌, map, Some, sym, refl, ap, ◌∙◌}
 use Rattle.std.specs.List.{slice_get}
 use Rattle.std.proofs.lemmas.List.{map-append}
 use Rattle.server.specs.Kind.{Kind}
@@ -42,8 +41,7 @@ module _ (k : Kind) (ls : List Line) (m : Machine k) (cs : List Call) where
   -- a completion that ended a job within some ticks of its arrival says that it took no more
   pub jobs_made : JobsAt k ls m cs → Jobs k ls m cs
   jobs_made jobs i t line some j passed =
-      let x = jobs i t line some j passed in
-      (
+      let x = jobs i t line some j passed in (
         x.0.completion,
         ap (λ xs. slice_get (of_jobs (suc i) xs) j) (sym (untimed_made m cs))
             ∙ ap (λ xs. slice_get xs j) (sym (untimed_jobs (suc i) (made_at m cs)))

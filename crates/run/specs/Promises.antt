@@ -1,5 +1,5 @@
 -- The law of a run: what holds after any calls tried on it, in any number and order, granted or refused.
-use Rattle.std.specs.Prelude.{◌≡◌, ℕ, zero, suc, ◌+◌, ◌*◌, ◌<◌, ◌≤◌, Bool, true, false, ◌&&◌, List, [], ◌∷◌, ◌++◌, take, Some, filter, ◌==◌, ◌≢◌}
+use Rattle.std.specs.Prelude.{◌≡◌, ℕ, zero, suc, ◌+◌, ◌*◌, ◌<◌, ◌≤◌, true, false, ◌&&◌, List, ◌∷◌, ◌++◌, take, Some, filter, ◌==◌, ◌≢◌}
 use Rattle.std.specs.List.{slice_get}
 use Rattle.server.specs.Kind.{Kind}
 use Rattle.plan.specs.declared.line.Line.{Line}

@@ -4,13 +4,13 @@ use text::Text;
 #[test]
 fn a_text_grows_at_its_end(rt: HostRuntime) {
     let mut text = Text::new();
-    assert_eq!(rt; text.as_bytes(), b"");
+    assert_eq!(rt; text.as_bytes(), b"".as_slice());
     text.push(b'n');
     text.push_number(0);
     text.push_all(b", ");
     text.push_number(10);
     text.push_number(4_294_967_295);
-    assert_eq!(rt; text.as_bytes(), b"n0, 104294967295");
+    assert_eq!(rt; text.as_bytes(), b"n0, 104294967295".as_slice());
 }
 
 #[test]
@@ -27,5 +27,5 @@ fn what_does_not_fit_is_cut_off(rt: HostRuntime) {
     for i in 0..319 {
         expected[i] = b'0' + (i % 10) as u8;
     }
-    assert_eq!(rt; text.as_bytes(), &expected);
+    assert_eq!(rt; text.as_bytes(), expected.as_slice());
 }

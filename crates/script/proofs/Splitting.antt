@@ -1,7 +1,7 @@
 -- The first word of a line, and those after it.
 use Rattle.std.proofs.Common.{◌≡◌, ℕ, suc, Bool, true, false, cond, not, List, [], ◌∷◌, get_or, take, drop, filter, sym, refl, ap, ◌∙◌, subst}
 use Rattle.script.specs.declared.bytes.Class.TheVariants.{Blank, Word}
-use Rattle.script.specs.Words.{is_blank, is_empty, is_of, onto, pieces, words, word, leading}
+use Rattle.script.specs.Words.{is_blank, is_empty, onto, pieces, words, word, leading}
 
 -- the pieces after the first
 abbrev later : List ℕ → List (List ℕ)

@@ -1,9 +1,8 @@
 -- What a line of text says.
-use Rattle.std.specs.Prelude.{ℕ, suc, ◌+◌, Bool, true, false, cond, ◌&&◌, ◌||◌, List, [], ◌∷◌, length, Some, None, codes, Option, ◌==◌, nat_le, slice_index}
+use Rattle.std.specs.Prelude.{ℕ, ◌+◌, Bool, cond, ◌&&◌, ◌||◌, List, length, Some, None, codes, Option, ◌==◌, nat_le, slice_index}
 use Rattle.std.specs.Option.{option_map}
 use Rattle.std.specs.Str.{bytes_eq}
 use Rattle.plan.specs.Records.{is_server}
-use Rattle.plan.specs.declared.line.Line.{Line}
 use Rattle.plan.specs.declared.line.Line.TheVariants.{Task, Server}
 use Rattle.script.specs.Numbers.{number}
 use Rattle.script.specs.Words.{is_empty, word}

@@ -1,8 +1,8 @@
 -- A lawful kind holds something: with nothing ever held it would break its floor.
-use Rattle.std.proofs.Common.{◌≡◌, ℕ, ◌+◌, ◌≤◌, true, false, leb, sym, refl, ap, ◌∙◌, arith}
-use Rattle.std.proofs.lemmas.Bool.{both_ways, false≢true}
+use Rattle.std.proofs.Common.{◌≡◌, ℕ, ◌+◌, true, false, leb, sym, refl, ap, ◌∙◌, arith}
+use Rattle.std.proofs.lemmas.Bool.{false≢true}
 use Rattle.server.specs.Kind.{Terms, Fit, Kind}
-use Rattle.server.specs.Histories.{History, inside, ready, Pressed}
+use Rattle.server.specs.Histories.{History, inside, ready}
 use Rattle.server.specs.Laws.{Lawful, Alive}
 
 -- always wanted, and never run

@@ -1,5 +1,5 @@
 -- The table of pending replenishments, whose places below n are pending, against the list.
-use Rattle.std.proofs.Common.{◌≡◌, ℕ, zero, suc, ◌+◌, ◌-◌, ◌<◌, ◌≤◌, List, [], ◌∷◌, ◌++◌, length, get_or, take, drop, set, sym, ap, ◌∙◌, arith}
+use Rattle.std.proofs.Common.{◌≡◌, ℕ, zero, suc, ◌+◌, ◌-◌, ◌<◌, ◌≤◌, List, [], ◌∷◌, length, get_or, take, drop, set, sym, ap, ◌∙◌, arith}
 use lib.Seq.{paste}
 use Rattle.std.proofs.lemmas.List.{take_more_set, take_all, take_at, length-set, length-take-le, length-drop, get_or-append_right, get_or-drop}
 use Rattle.std.proofs.lemmas.List.Edits.{paste_more}

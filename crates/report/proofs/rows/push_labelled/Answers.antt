@@ -1,4 +1,4 @@
-use Rattle.std.proofs.Common.{append_assoc, rules}
+use Rattle.std.proofs.Common.{rules}
 use Rattle.text.proofs.Cuts.{added_twice}
 use Rattle.report.specs.Rows.{labelled}
 use Rattle.report.proofs.rows.push_labelled.Goals as goal

@@ -1,4 +1,4 @@
-use Rattle.std.proofs.Common.{◌≡◌, ◌++◌, take, sym, ap, ◌∙◌}
+use Rattle.std.proofs.Common.{◌++◌, take, sym, ap, ◌∙◌}
 use Rattle.text.specs.Written.{room, written}
 use Rattle.text.proofs.Cuts.{none_added}
 use Rattle.report.proofs.ShownRows.{rows_more, rows_end}

@@ -1,4 +1,4 @@
-use Rattle.std.proofs.Common.{◌≡◌, length, sym, refl, ap, ◌∙◌}
+use Rattle.std.proofs.Common.{length, ap, ◌∙◌}
 use Rattle.analysis.specs.Drafts.{lines}
 use Rattle.report.specs.Results.{times_of, counted, filled}
 use Rattle.report.proofs.Choosing.{counted_timed, filled_written}

@@ -1,5 +1,5 @@
 use Rattle.std.proofs.Common.{arith}
-use Rattle.script.proofs.Scanning.{leading_here, leading_later, leading_end, leading_within}
+use Rattle.script.proofs.Scanning.{leading_here, leading_later, leading_end}
 use Rattle.script.proofs.bytes.leading.Goals as goal
 
 pub returns-then-not-is_of : goal.returns-then-not-is_of

@@ -1,4 +1,4 @@
-use Rattle.std.proofs.Common.{◌≡◌, ◌+◌, sym, refl, ap, ◌∙◌, rules}
+use Rattle.std.proofs.Common.{◌+◌, sym, refl, ap, ◌∙◌}
 use Rattle.std.proofs.lemmas.Result.{err_from_is_err_and}
 use Rattle.plan.specs.Answers.{answer, placed}
 use Rattle.analysis.specs.Drafts.{lines}

@@ -1,4 +1,4 @@
-use Rattle.std.proofs.Common.{◌≡◌, sym, ap, ◌∙◌, subst}
+use Rattle.std.proofs.Common.{sym, ap, ◌∙◌, subst}
 use Rattle.analysis.specs.Drafts.{lines}
 use Rattle.analysis.specs.Verdicts.{verdict, Judges}
 use Rattle.analysis.proofs.Judging.{verdict_judges}

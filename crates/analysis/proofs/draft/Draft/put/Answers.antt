@@ -1,6 +1,5 @@
-use Rattle.std.proofs.Common.{◌≡◌, true, [], ◌∷◌, ◌++◌, map, length, take, set, sym, ap, ◌∙◌, subst, arith}
+use Rattle.std.proofs.Common.{◌≡◌, true, [], ◌∷◌, ◌++◌, map, take, sym, ap, ◌∙◌, subst, arith}
 use Rattle.std.proofs.lemmas.List.{length-set, take_more_set, map_push}
-use Rattle.plan.specs.Records.{decoded}
 use Rattle.analysis.specs.Drafts.{lines}
 use Rattle.analysis.specs.Stored.{decodable, line_in, line_of}
 use Rattle.analysis.proofs.StoredLines.{decodable_push}

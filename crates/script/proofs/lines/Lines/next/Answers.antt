@@ -1,4 +1,4 @@
-use Rattle.std.proofs.Common.{cond, take, Some, sym, ap, ◌∙◌, arith, rules}
+use Rattle.std.proofs.Common.{take, Some, sym, ap, ◌∙◌, arith, rules}
 use Rattle.std.proofs.lemmas.Bool.{eqb-true, eqb-false, cond-true, cond-false}
 use Rattle.script.proofs.Feeding.{no_line, one_line, next_line}
 use Rattle.script.proofs.lines.Lines.next.Goals as goal
