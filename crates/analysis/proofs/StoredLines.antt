@@ -1,7 +1,7 @@
 -- The records of a draft, and the lines that they hold.
 use Rattle.std.proofs.Common.{◌≡◌, ℕ, ◌-◌, ◌<◌, ◌≤◌, true, List, [], ◌∷◌, ◌++◌, map, length, get_or, take, Some, None, refl, ap, ◌∙◌, subst, arith}
 use native.Mathlib.Nat.{sub-zero}
-use Rattle.std.specs.List.{slice_get, AllByRecursion as All}
+use Rattle.std.specs.List.{slice_get, AllByRecursion}
 use Rattle.std.proofs.ByRecursion.{All-get_or}
 use Rattle.std.proofs.lemmas.List.{length-map, length-take-le, get_or-map, get_or-take}
 use Rattle.std.proofs.lemmas.Option.{slice_get-get_or, slice_get_past}
@@ -19,7 +19,7 @@ line_fit : (bs : List ℕ) (d : Decoded) → decoded bs ≡ d → is_line d ≡ 
 line_fit bs (line l) is ok = decoded_fit bs l is
 line_fit bs (fault number byte) is ok = absurd (false≢true ok)
 
-records_fit : (rs : List (List ℕ)) → decodable rs ≡ true → All Fit (map line_of rs)
+records_fit : (rs : List (List ℕ)) → decodable rs ≡ true → AllByRecursion Fit (map line_of rs)
 records_fit [] ok = tt
 records_fit (bs ∷ rs) ok =
     let both = and_parts (is_line (decoded bs)) (decodable rs) ok in
@@ -33,7 +33,7 @@ decodable_push (r ∷ rs) bs l ok is =
     and_from (is_line (decoded r)) (decodable (rs ++ (bs ∷ []))) both.0 (decodable_push rs bs l both.1 is)
 
 module _ {S : Type 0} {g : Ghosts S} (d : Draft S g) where
-  pub lines_fit : All Fit (lines d)
+  pub lines_fit : AllByRecursion Fit (lines d)
   unfolding lines
   lines_fit = records_fit (take d.count d.records) d.good
 
@@ -45,7 +45,7 @@ module _ {S : Type 0} {g : Ghosts S} (d : Draft S g) where
   pub part_is : (all : List Line) → take d.count all ≡ lines d → take (d.count - 0) all ≡ lines d
   part_is all is = rw sub-zero is
 
-  pub part_fit : (part : List Line) → part ≡ lines d → All Fit part
+  pub part_fit : (part : List Line) → part ≡ lines d → AllByRecursion Fit part
   part_fit part is = rw is lines_fit
 
   pub part_few : (part : List Line) → part ≡ lines d → length part ≤ 20

@@ -1,6 +1,6 @@
 -- One record more at the end of a plan.
 use Rattle.std.specs.Prelude.{◌≡◌, ℕ, suc, Bool, true, false, not, ◌||◌, List, [], ◌∷◌, ◌++◌, length, count_by, nat_lt}
-use Rattle.std.specs.List.{AllByRecursion as All}
+use Rattle.std.specs.List.{AllByRecursion}
 use Rattle.server.specs.Kind.{Kind}
 use Rattle.plan.specs.Answers.{Answer, granted, refused, placed}
 use Rattle.plan.specs.Records.{decoded}
@@ -52,4 +52,4 @@ numbered ls (refused number «record» byte) = refused number «record» byte
 
 -- every server's letter is one that the kind serves
 abbrev pub Served : Kind → List Line → Type 0
-Served k ls = All (λ l. served k l ≡ true) ls
+Served k ls = AllByRecursion (λ l. served k l ≡ true) ls

@@ -1,6 +1,6 @@
 // The response-time equation, and its least solution.
 ghost use Rattle.std.specs.Prelude.{◌≡◌, ℕ, ◌+◌, ◌*◌, ◌^◌, ◌<◌, ◌≤◌, length, take, slice_index_or};
-ghost use Rattle.std.specs.List.{AllByRecursion as All};
+ghost use Rattle.std.specs.List.{AllByRecursion};
 ghost use Rattle.plan.specs.Records.{Fit};
 ghost use Rattle.analysis.specs.Equation.{blank, own, limit, share, demand};
 ghost use Rattle.analysis.specs.Response.{Response};
@@ -56,7 +56,7 @@ fn share_of<S: Server>(line: &Line, w: u32) -> u64
 
 // Own work and the shares of all lines above, in w ticks.
 fn demand_of<S: Server>(above: &[Line], line: &Line, w: u32) -> u64
-    requires fit { All Fit above.now }
+    requires fit { AllByRecursion Fit above.now }
     requires few { length above.now ≤ 20 }
     requires window { w ≤ 1000000 }
     ensures { result ≡ demand S.Server.kind above.now line.now w }
@@ -71,7 +71,7 @@ fn demand_of<S: Server>(above: &[Line], line: &Line, w: u32) -> u64
 // The least solution of a line's equation, or none within its limit. Each turn goes on with the demand of the
 // time tried: no solution lies below it, since the demand never falls.
 fn least_solution<S: Server>(above: &[Line], line: &Line) -> Option<u32>
-    requires fit { All Fit above.now }
+    requires fit { AllByRecursion Fit above.now }
     requires few { length above.now ≤ 20 }
     requires own { Fit line.now }
     ensures { Response S.Server.kind above.now line.now result }
@@ -90,7 +90,7 @@ fn least_solution<S: Server>(above: &[Line], line: &Line) -> Option<u32>
 
 // The response time of the line at place i, counted from 0, below the lines before it.
 pub(crate) fn response_time<S: Server>(lines: &[Line], i: usize) -> Option<u32>
-    requires fit { All Fit lines.now }
+    requires fit { AllByRecursion Fit lines.now }
     requires few { length lines.now ≤ 20 }
     requires within { i < length lines.now }
     ensures { Response S.Server.kind (take i lines.now) (slice_index_or lines.now i blank) result }

@@ -1,6 +1,6 @@
 // The equation over all lines of a plan, from the first line down.
 ghost use Rattle.std.specs.Prelude.{◌≡◌, ◌<◌, ◌≤◌, ◌++◌, length, drop};
-ghost use Rattle.std.specs.List.{AllByRecursion as All};
+ghost use Rattle.std.specs.List.{AllByRecursion};
 ghost use Rattle.plan.specs.Records.{Fit};
 ghost use Rattle.analysis.specs.Times.{times};
 ghost use Rattle.analysis.specs.Verdicts.{verdict, judged, Judges};
@@ -13,7 +13,7 @@ use server::kind::Server;
 
 // Writes the response time of each line, 0 where the line does not pass.
 pub(crate) fn write_times<S: Server>(lines: &[Line], out: &mut [u32])
-    requires fit { All Fit lines.now }
+    requires fit { AllByRecursion Fit lines.now }
     requires few { length lines.now ≤ 20 }
     requires room { length lines.now ≤ length out.old }
     ensures { out.new ≡ times S.Server.kind lines.now ++ drop (length lines.now) out.old }
@@ -25,7 +25,7 @@ pub(crate) fn write_times<S: Server>(lines: &[Line], out: &mut [u32])
 
 // All lines pass, or the first that does not is refused with 18.
 pub(crate) fn judge<S: Server>(lines: &[Line]) -> Result<(), LineFault>
-    requires fit { All Fit lines.now }
+    requires fit { AllByRecursion Fit lines.now }
     requires few { length lines.now ≤ 20 }
     ensures { judged result ≡ verdict S.Server.kind lines.now }
 {

@@ -1,6 +1,6 @@
 -- The cases hold.
 use Rattle.std.proofs.Common.{◌≡◌, ◌≤◌, [], ◌∷◌, Some, refl, ap, arith, lit≤}
-use Rattle.std.specs.List.{AllByRecursion as All}
+use Rattle.std.specs.List.{AllByRecursion}
 use Rattle.server.specs.Kind.{Kind}
 use Rattle.plan.specs.Answers.{granted}
 use Rattle.plan.specs.Records.{decoded, encoded}
@@ -27,7 +27,7 @@ unfolding plan_times plan_letter plan_for added decoded encoded times
 longest_holds = (ap (λ t. granted (t ∷ [])) (top_time _ _ (lit≤ tt) (lit≤ tt)), refl)
 
 -- every other case is computed
-pub all_hold : All Holds cases
+pub all_hold : AllByRecursion Holds cases
 unfolding plan_times plan_letter plan_for added decoded encoded times time_of ticked offered
 all_hold = (
   (refl, refl),

@@ -1,6 +1,6 @@
 -- How long a whole plan is, and how large its times are.
 use Rattle.std.proofs.Common.{◌≡◌, ℕ, zero, suc, ◌*◌, ◌/◌, ◌%◌, ◌≤◌, Bool, true, false, cond, eqb, List, [], ◌∷◌, ◌++◌, length, sym, refl, subst, ⊎_elim, div-mul-le_self, arith}
-use Rattle.std.specs.List.{AllByRecursion as All}
+use Rattle.std.specs.List.{AllByRecursion}
 use Rattle.std.proofs.ByRecursion.{All-push}
 use Rattle.std.proofs.lemmas.List.{length_push}
 use Rattle.std.proofs.lemmas.Bool.{cases_eq}
@@ -23,7 +23,7 @@ use Rattle.report.specs.Results.{times_of, plan_times}
 pub record Read (n : ℕ) (ls : List Line) : Type 0 where
   pub many : length ls ≡ n
   pub few : length ls ≤ 20
-  pub fit : All Fit ls
+  pub fit : AllByRecursion Fit ls
 
 module _ (k : Kind) (bs : List ℕ) where
   read_more : (n : ℕ) (ms ls : List Line) (a : Answer Line) → added k ms (record_at bs n) ≡ a → Read n ms → extended ms a ≡ granted ls → Read (suc n) ls
@@ -67,14 +67,14 @@ module _ (k : Kind) (bs : List ℕ) where
       (λ (some : time_of k above l ≡ 0 → ⊥). omega (arith, (time_solves k above l some).within, limit_small l fit))
       (cases_eq (time_of k above l) 0)
 
-  below_small : (above ls : List Line) → All Fit ls → All (λ t. t ≤ 1000000) (times_below k above ls)
+  below_small : (above ls : List Line) → AllByRecursion Fit ls → AllByRecursion (λ t. t ≤ 1000000) (times_below k above ls)
   below_small above [] fit = tt
   below_small above (l ∷ ls) fit = (time_small above l fit.0, below_small (above ++ (l ∷ [])) ls fit.1)
 
 -- the times of a whole plan: at most 20, each at most 1,000,000, and one for each record
 pub record Extent (bs ts : List ℕ) : Type 0 where
   pub few : length ts ≤ 20
-  pub small : All (λ t. t ≤ 1000000) ts
+  pub small : AllByRecursion (λ t. t ≤ 1000000) ts
   pub whole : 20 * length ts ≤ length bs
 
 times_extent : (k : Kind) (bs ts : List ℕ) (a : Answer (List Line)) → plan_for k bs ≡ a → times_of k a ≡ granted ts → Extent bs ts

@@ -1,6 +1,6 @@
 -- The text of a plan fits its room.
 use Rattle.std.proofs.Common.{ℕ, suc, ◌+◌, ◌*◌, ◌^◌, ◌<◌, ◌≤◌, eqb, List, [], ◌∷◌, ◌++◌, length, get_or, codes, decimal, arith, lit<}
-use Rattle.std.specs.List.{AllByRecursion as All}
+use Rattle.std.specs.List.{AllByRecursion}
 use Rattle.std.proofs.lemmas.Fmt.{length-decimal-le}
 use Rattle.std.proofs.lemmas.List.{length-append}
 use Rattle.std.proofs.lemmas.Bool.{cond_both}
@@ -17,7 +17,7 @@ unfolding row
 row_width n letter t few small =
     simp length-append (omega (arith, length-decimal-le 2 n (lit< tt) (omega arith) (omega arith), time_width t small))
 
-rows_width : (bs : List ℕ) (i : ℕ) (ts : List ℕ) → i + length ts ≤ 20 → All (λ t. t ≤ 1000000) ts → length (rows bs i ts) ≤ 13 * length ts
+rows_width : (bs : List ℕ) (i : ℕ) (ts : List ℕ) → i + length ts ≤ 20 → AllByRecursion (λ t. t ≤ 1000000) ts → length (rows bs i ts) ≤ 13 * length ts
 rows_width bs i [] few small = omega arith
 rows_width bs i (t ∷ ts) few small =
     let this = row_width (suc i) (get_or bs (20 * i) 0) t (omega arith) small.0 in
@@ -33,7 +33,7 @@ verdict_width i (t ∷ ts) few =
     (λ some. verdict_width (suc i) ts (omega arith))
 
 -- at most 20 lines
-pub text_width : (bs ts : List ℕ) → length ts ≤ 20 → All (λ t. t ≤ 1000000) ts → length (rows bs 0 ts ++ verdict_row (verdict_from 1 ts)) ≤ 320
+pub text_width : (bs ts : List ℕ) → length ts ≤ 20 → AllByRecursion (λ t. t ≤ 1000000) ts → length (rows bs 0 ts ++ verdict_row (verdict_from 1 ts)) ≤ 320
 text_width bs ts few small =
     simp length-append (omega (arith, rows_width bs 0 ts (omega arith) small, verdict_width 1 ts (omega arith)))
 

@@ -1,6 +1,6 @@
 -- The completions that a tick makes are of the line that is chosen.
 use Rattle.std.proofs.Common.{◌≡◌, ℕ, ◌+◌, Bool, true, false, cond, eqb, leb, List, [], ◌∷◌, Some, None, Option, sym, refl, ◌∙◌}
-use Rattle.std.specs.List.{AllByRecursion as All}
+use Rattle.std.specs.List.{AllByRecursion}
 use Rattle.std.proofs.lemmas.Bool.{cond-true, cond-false, cond_both, and_from, and_left, and_parts, eqb-true, eq-eqb, ne_eqb}
 use Rattle.server.specs.Kind.{Kind}
 use Rattle.run.specs.declared.items.Completion.{Completion}
@@ -13,7 +13,7 @@ use Rattle.run.specs.Tries.{timed}
 use Rattle.run.proofs.Waiting.{earliest_waits}
 
 abbrev pub OfLine : ℕ → List Completion → Type 0
-OfLine c xs = All (λ x. x.line ≡ c) xs
+OfLine c xs = AllByRecursion (λ x. x.line ≡ c) xs
 
 request_ends_line : (end c : ℕ) (ws : List Request) (o : Option Request) → earliest c ws ≡ o → OfLine c (request_ends end o)
 request_ends_line end c ws None is = tt

@@ -1,6 +1,6 @@
 -- Elements of lists by their places, and so the rows of lines.
 use Rattle.std.proofs.Common.{◌≡◌, ℕ, zero, suc, ◌+◌, ◌-◌, ◌<◌, List, [], ◌∷◌, ◌++◌, map, length, set, Some, None, Option, sym, refl, ap, ◌∙◌, subst, arith}
-use Rattle.std.specs.List.{slice_get, AllByRecursion as All}
+use Rattle.std.specs.List.{slice_get, AllByRecursion}
 use Rattle.std.proofs.lemmas.Bool.{cond-false, ne_eqb}
 use Rattle.server.specs.Kind.{Kind}
 use Rattle.run.specs.Machine.{Machine, opened_rows, chosen, advanced, row_of}
@@ -39,7 +39,7 @@ pub at_right : {A : Type 0} (xs ys : List A) (n : ℕ) (x : A) → slice_get ys 
 at_right [] ys n x at = (n, at)
 at_right (z ∷ xs) ys n x at = let there = at_right xs ys n x at in (suc there.0, there.1)
 
-pub all_at : {A : Type 0} (P : A → Type 0) (xs : List A) (n : ℕ) (x : A) → slice_get xs n ≡ Some x → All P xs → P x
+pub all_at : {A : Type 0} (P : A → Type 0) (xs : List A) (n : ℕ) (x : A) → slice_get xs n ≡ Some x → AllByRecursion P xs → P x
 all_at P [] n x at all = absurd (none_not at)
 all_at P (y ∷ ys) zero x at all = subst P (some_same at) all.0
 all_at P (y ∷ ys) (suc n) x at all = all_at P ys n x at all.1

@@ -1,6 +1,6 @@
 -- A request that finds its line empty and asks for no more than is held ends within the response time of the line.
 use Rattle.std.proofs.Common.{◌≡◌, ℕ, suc, ◌≤◌, false, eqb, leb, ◌⊎◌, List, [], ◌∷◌, ◌++◌, take, Some, sym, refl, ap, ◌∙◌, subst, inl, inr, ⊎_elim, arith}
-use Rattle.std.specs.List.{slice_get, AllByRecursion as All}
+use Rattle.std.specs.List.{slice_get, AllByRecursion}
 use Rattle.std.proofs.lemmas.Bool.{and_from, eq-eqb, le-leb}
 use Rattle.server.specs.Kind.{Kind, Terms}
 use Rattle.server.specs.Laws.{Lawful}
@@ -53,7 +53,7 @@ module _ {k : Kind} (m : Machine k) (i number start w : ℕ) (Opened : List Call
           inr
           (next c (since ++ before) o')
 
-module _ (k : Kind) (lawful : Lawful k) (ls : List Line) (fit : All Fit ls) (letters : Served k ls) (waiting_room completed_room : ℕ) where
+module _ (k : Kind) (lawful : Lawful k) (ls : List Line) (fit : AllByRecursion Fit ls) (letters : Served k ls) (waiting_room completed_room : ℕ) where
   abbrev m : Machine k
   m = started ls waiting_room completed_room
 

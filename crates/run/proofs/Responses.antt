@@ -1,6 +1,6 @@
 -- The jobs of a line that passes end in order, within its response time.
 use Rattle.std.proofs.Common.{◌≡◌, ℕ, ◌+◌, ◌≤◌, List, take, Some, refl, arith}
-use Rattle.std.specs.List.{slice_get, AllByRecursion as All}
+use Rattle.std.specs.List.{slice_get, AllByRecursion}
 use Rattle.server.specs.Kind.{Kind}
 use Rattle.server.specs.Laws.{Lawful}
 use Rattle.plan.specs.Records.{Fit}
@@ -21,7 +21,7 @@ use Rattle.run.proofs.Places.{map_at, all_at, at_within}
 use Rattle.run.proofs.ServerLaw.{ceilings}
 use Rattle.run.proofs.TaskBound.{task_bounded}
 
-module _ (k : Kind) (lawful : Lawful k) (ls : List Line) (fit : All Fit ls) (letters : Served k ls) (waiting_room completed_room : ℕ) where
+module _ (k : Kind) (lawful : Lawful k) (ls : List Line) (fit : AllByRecursion Fit ls) (letters : Served k ls) (waiting_room completed_room : ℕ) where
   abbrev m : Machine k
   m = started ls waiting_room completed_room
 

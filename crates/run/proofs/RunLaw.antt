@@ -1,6 +1,6 @@
 -- The law of a run holds for every lawful kind and all lines within their bounds.
 use Rattle.std.proofs.Common.{ℕ, List, refl}
-use Rattle.std.specs.List.{AllByRecursion as All}
+use Rattle.std.specs.List.{AllByRecursion}
 use Rattle.server.specs.Kind.{Kind}
 use Rattle.server.specs.Laws.{Lawful}
 use Rattle.plan.specs.Records.{Fit}
@@ -14,7 +14,7 @@ use Rattle.run.proofs.Responses.{jobs, in_order}
 use Rattle.run.proofs.ServerLaw.{ceilings, budget}
 use Rattle.run.proofs.Untimed.{jobs_made, requests_made}
 
-module _ (k : Kind) (lawful : Lawful k) (ls : List Line) (fit : All Fit ls) (letters : Served k ls) (waiting_room completed_room : ℕ) where
+module _ (k : Kind) (lawful : Lawful k) (ls : List Line) (fit : AllByRecursion Fit ls) (letters : Served k ls) (waiting_room completed_room : ℕ) where
   abbrev m : Machine k
   m = started ls waiting_room completed_room
 

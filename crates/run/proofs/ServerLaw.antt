@@ -1,6 +1,6 @@
 -- Servers keep to their ceilings, and the server on the first line gets its budget.
 use Rattle.std.proofs.Common.{◌≡◌, ℕ, ◌+◌, ◌*◌, true, List, Some, refl, ◌∙◌, arith}
-use Rattle.std.specs.List.{slice_get, AllByRecursion as All}
+use Rattle.std.specs.List.{slice_get, AllByRecursion}
 use Rattle.std.proofs.lemmas.Bool.{and_from, lt-ltb, eq-eqb}
 use Rattle.server.specs.Kind.{Kind}
 use Rattle.server.specs.Laws.{Lawful, Keeps}
@@ -19,7 +19,7 @@ use Rattle.run.proofs.Places.{map_at, all_at}
 use Rattle.run.proofs.ServerHistory.{history, state_now, runs_are}
 use Rattle.run.proofs.ServerRun.{server_at, possible, ready_then, fresh_is}
 
-module _ (k : Kind) (lawful : Lawful k) (ls : List Line) (fit : All Fit ls) (letters : Served k ls) (waiting_room completed_room : ℕ) (cs : List Call) where
+module _ (k : Kind) (lawful : Lawful k) (ls : List Line) (fit : AllByRecursion Fit ls) (letters : Served k ls) (waiting_room completed_room : ℕ) (cs : List Call) where
   abbrev m : Machine k
   m = started ls waiting_room completed_room
 
