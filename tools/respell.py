@@ -20,6 +20,11 @@ OTHER = {
     "row-of": "row_of_is",
 }
 
+# names that stand for an import in a source file, and variables that patterns and lets bind
+BOUND_THERE = (
+    "deferrable-kind polling-kind sporadic-kind sporadic-too not-now q-len ran-before ran-now aIs bIs fIs m1Is m2Is m3Is nextIs oIs tIs xIs tIs' m2Is' fIs'"
+).split()
+
 TOKEN = re.compile(r"[^\s(){}\[\];,.⌜⌝\"]+")
 DEF = re.compile(r"^\s*(?:(?:abbrev|unfoldable|pub|instance|infix\w*|let)\s+)*([^\s(){}\[\];,.:=\"]+)\s*(?:[({][^:]*:.*[)}]\s*)*:(?:\s|$)")
 BOUND = re.compile(r"[({]([^(){}:]*) : ")
@@ -51,7 +56,7 @@ def turned(n):
 
 def words():
     """The own words to turn; those of them that are fields, and the names of modules under which words are cited."""
-    made, own, fields, aliases = set(), set(), set(), set()
+    made, own, fields, aliases = set(), set(BOUND_THERE), set(), set()
     for p in antt():
         made |= set(re.findall(r"\bgoal\.([^\s(){}\[\];,.]+)", read(p)))
     for p in antt():

@@ -9,26 +9,26 @@ module _ {k : Kind} where
   pub turn_value_is : (line amount : ℕ) (m m1 m2 : Machine k) (o t f : ℕ) → o ≡ offer_value (offered line amount m).0 → m1 ≡ (offered line amount m).1
       → t ≡ tick_value (ticked m1).0 → m2 ≡ (ticked m1).1 → f ≡ fetch_value (fetched m2).0 → o + t + f ≡ turn_value line amount m
   unfolding turn_value
-  turn_value_is line amount m m1 m2 o t f oIs m1Is tIs m2Is fIs =
-      let tIs' = tIs ∙ ap (λ z. tick_value (ticked z).0) m1Is in
-      let m2Is' = m2Is ∙ ap (λ z. (ticked z).1) m1Is in
-      let fIs' = fIs ∙ ap (λ z. fetch_value (fetched z).0) m2Is' in
-      ap (λ z. z + t + f) oIs
-      ∙ ap (λ z. offer_value (offered line amount m).0 + z + f) tIs'
-      ∙ ap (λ z. offer_value (offered line amount m).0 + tick_value (ticked (offered line amount m).1).0 + z) fIs'
+  turn_value_is line amount m m1 m2 o t f o_is m1_is t_is m2_is f_is =
+      let t_is' = t_is ∙ ap (λ z. tick_value (ticked z).0) m1_is in
+      let m2_is' = m2_is ∙ ap (λ z. (ticked z).1) m1_is in
+      let f_is' = f_is ∙ ap (λ z. fetch_value (fetched z).0) m2_is' in
+      ap (λ z. z + t + f) o_is
+      ∙ ap (λ z. offer_value (offered line amount m).0 + z + f) t_is'
+      ∙ ap (λ z. offer_value (offered line amount m).0 + tick_value (ticked (offered line amount m).1).0 + z) f_is'
 
   pub turn_after : (line amount : ℕ) (m m1 m2 m3 : Machine k) → m1 ≡ (offered line amount m).1 → m2 ≡ (ticked m1).1 → m3 ≡ (fetched m2).1 → m3 ≡ turned line amount m
   unfolding turned
-  turn_after line amount m m1 m2 m3 m1Is m2Is m3Is = m3Is ∙ ap (λ z. (fetched z).1) (m2Is ∙ ap (λ z. (ticked z).1) m1Is)
+  turn_after line amount m m1 m2 m3 m1_is m2_is m3_is = m3_is ∙ ap (λ z. (fetched z).1) (m2_is ∙ ap (λ z. (ticked z).1) m1_is)
 
   -- one turn more
   pub after_more : (lines amount i : ℕ) (m a b : Machine k) → a ≡ after_turns lines amount m i → b ≡ turned (i % (lines + 1)) amount a → b ≡ after_turns lines amount m (i + 1)
-  after_more lines amount i m a b aIs bIs =
-      bIs ∙ ap (turned (i % (lines + 1)) amount) aIs ∙ ap (after_turns lines amount m) (sym (add-one i))
+  after_more lines amount i m a b a_is b_is =
+      b_is ∙ ap (turned (i % (lines + 1)) amount) a_is ∙ ap (after_turns lines amount m) (sym (add-one i))
 
   pub sum_more : (lines amount i : ℕ) (m a : Machine k) (sum x next : ℕ) → sum ≡ sum_turns lines amount m i → a ≡ after_turns lines amount m i
       → x ≡ turn_value (i % (lines + 1)) amount a → next ≡ summed sum x → next ≡ sum_turns lines amount m (i + 1)
-  sum_more lines amount i m a sum x next sum_is aIs xIs nextIs =
-      nextIs ∙ ap (λ z. summed z x) sum_is
-      ∙ ap (summed (sum_turns lines amount m i)) (xIs ∙ ap (turn_value (i % (lines + 1)) amount) aIs)
+  sum_more lines amount i m a sum x next sum_is a_is x_is next_is =
+      next_is ∙ ap (λ z. summed z x) sum_is
+      ∙ ap (summed (sum_turns lines amount m i)) (x_is ∙ ap (turn_value (i % (lines + 1)) amount) a_is)
       ∙ ap (sum_turns lines amount m) (sym (add-one i))

@@ -1,8 +1,8 @@
 // A run of a plan for each kind. The size of a run hangs on its kind, so each is started at a kind that is known.
 ghost use Rattle.std.specs.Prelude.{◌≡◌};
-ghost use Rattle.server.specs.DeferrableKind.{deferrable as deferrable-kind};
-ghost use Rattle.server.specs.PollingKind.{polling as polling-kind};
-ghost use Rattle.server.specs.SporadicKind.{sporadic as sporadic-kind};
+ghost use Rattle.server.specs.DeferrableKind.{deferrable as deferrable_kind};
+ghost use Rattle.server.specs.PollingKind.{polling as polling_kind};
+ghost use Rattle.server.specs.SporadicKind.{sporadic as sporadic_kind};
 ghost use Rattle.report.specs.Results.{admitted_lines};
 ghost use Rattle.drive.specs.Whole.{driven_lines};
 
@@ -32,19 +32,19 @@ macro_rules! driven {
 }
 
 pub(crate) fn drive_polling(bytes: &[u8], ticks: u32, amount: u32, places: u32) -> u64
-    ensures { result ≡ driven_lines polling-kind ticks amount places (admitted_lines polling-kind bytes.now) }
+    ensures { result ≡ driven_lines polling_kind ticks amount places (admitted_lines polling_kind bytes.now) }
 {
     driven!(Polling, bytes, ticks, amount, places)
 }
 
 pub(crate) fn drive_deferrable(bytes: &[u8], ticks: u32, amount: u32, places: u32) -> u64
-    ensures { result ≡ driven_lines deferrable-kind ticks amount places (admitted_lines deferrable-kind bytes.now) }
+    ensures { result ≡ driven_lines deferrable_kind ticks amount places (admitted_lines deferrable_kind bytes.now) }
 {
     driven!(Deferrable, bytes, ticks, amount, places)
 }
 
 pub(crate) fn drive_sporadic(bytes: &[u8], ticks: u32, amount: u32, places: u32) -> u64
-    ensures { result ≡ driven_lines sporadic-kind ticks amount places (admitted_lines sporadic-kind bytes.now) }
+    ensures { result ≡ driven_lines sporadic_kind ticks amount places (admitted_lines sporadic_kind bytes.now) }
 {
     driven!(Sporadic, bytes, ticks, amount, places)
 }

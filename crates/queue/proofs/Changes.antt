@@ -20,7 +20,7 @@ pub pushed :
     {T : Type 0} (q p : Queue T) (n : ℕ) (x : T) → n ≡ length (items q) → n < room q → p.taken ≡ n + 1 →
     p.places.now ≡ set q.places.now n x → items p ≡ items q ++ x ∷ []
 pushed q p n x len fits taken wrote =
-    let q-len = length_items q in
+    let q_len = length_items q in
     let r = set_room q p n x wrote in
     let inside : n < length q.places.now = omega (arith, room_within q) in
     items_first p (n + 1) (omega arith)
@@ -33,13 +33,13 @@ pub replaced :
     {T : Type 0} (q p : Queue T) (k : ℕ) (x : T) → k < length (items q) → p.taken ≡ q.taken →
     p.places.now ≡ set q.places.now k x → items p ≡ set (items q) k x
 replaced q p k x inside taken wrote =
-    let q-len = length_items q in
+    let q_len = length_items q in
     let r = set_room q p k x wrote in
     let n : ℕ = length (items q) in
     items_first p n (omega arith)
     ∙ ap (take n) wrote
     ∙ take-set-lt n q.places.now k x inside
-    ∙ ap (λ ys. set ys k x) (sym (items_first q n q-len))
+    ∙ ap (λ ys. set ys k x) (sym (items_first q n q_len))
 
 -- an item less, where those behind it have closed up
 pub closed :
@@ -47,7 +47,7 @@ pub closed :
     length p.places.now ≡ length q.places.now →
     take n p.places.now ≡ remove (take (n + 1) q.places.now) k → items p ≡ remove (items q) k
 closed q p k n len taken long wrote =
-    let q-len = length_items q in
+    let q_len = length_items q in
     let r = same_room q p long in
     items_first p n (omega arith)
     ∙ wrote

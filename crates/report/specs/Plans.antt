@@ -43,7 +43,7 @@ unfoldable pub plan_letter : List ℕ → ℕ
 plan_letter bs = server_from bs 0 (length bs / 20)
 
 abbrev pub pick : Bool → Bool → Kind
-pick true sporadic-too = deferrable
+pick true sporadic_too = deferrable
 pick false true = sporadic
 pick false false = polling
 

@@ -69,7 +69,7 @@ module _ {k : Kind} (m : Machine k) (i : ℕ) (t : plan_task.Task) (w : ℕ) whe
             });
           },
         )
-    opens cs unfinished next u v ends near going (inr (not-now, same, still)) =
+    opens cs unfinished next u v ends near going (inr (not_now, same, still)) =
         ((omega (arith, near), omega (arith, near)), rw (same, still) going)
 
     -- a call that lets no time pass

@@ -58,17 +58,17 @@ module _ {k : Kind} (m : Machine k) (j : ℕ) (t : plan_task.Task) (fit : Fit (T
         record { jobs = 0; work = omega (arith, none, ran, zero-mul t.work); moved = omega (arith, later, zero-mul t.period) }
     window_more s (suc n) ends rest =
         let w = before.window s n (omega arith) (fresh_past m c cs (suc j) s (omega arith) rest) in
-        let ran-before = ran_past m c cs (suc j) s n (omega arith) in
-        let ran-now = ap {B = ℕ} (λ M. cond (eqb (chosen M) (suc j)) 1 0) (found_tick m c cs (omega arith) (s + n) (omega arith)) in
+        let ran_before = ran_past m c cs (suc j) s n (omega arith) in
+        let ran_now = ap {B = ℕ} (λ M. cond (eqb (chosen M) (suc j)) 1 0) (found_tick m c cs (omega arith) (s + n) (omega arith)) in
         ⊎_elim
         (λ yes'. record {
           jobs = suc w.jobs;
-          work = omega (arith, w.work, ran-before, ran-now, ran, yes', suc-mul w.jobs t.work);
+          work = omega (arith, w.work, ran_before, ran_now, ran, yes', suc-mul w.jobs t.work);
           moved = omega (arith, w.moved, yes', suc-mul w.jobs t.period);
         })
         (λ none. record {
           jobs = w.jobs;
-          work = omega (arith, w.work, ran-before, ran-now, ran, none);
+          work = omega (arith, w.work, ran_before, ran_now, ran, none);
           moved = omega (arith, w.moved, none);
         })
         arrives
