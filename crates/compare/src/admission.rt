@@ -1,5 +1,5 @@
 // Plans to be run: the verdicts of both sides on their admission.
-use crate::draw::plan::{Drawn, letter};
+use crate::draw::drawn::{Drawn, letter};
 use crate::draw::scene::{Actor, small_plan};
 use crate::library::start::admission;
 use crate::naive::bytes::{Place, read};

@@ -1,6 +1,6 @@
 // Drawn input: plans, damaged plans, and calls.
 pub(crate) mod calls;
 pub(crate) mod damage;
-pub(crate) mod plan;
+pub(crate) mod drawn;
 pub(crate) mod scene;
 pub(crate) mod trial;

@@ -1,5 +1,5 @@
 // Damage to the bytes of a plan.
-use crate::draw::plan::{Drawn, letter};
+use crate::draw::drawn::{Drawn, letter};
 use crate::random::Random;
 
 // A number at or next to one of its bounds.

@@ -1,6 +1,6 @@
 // Drawn scenes: two plans of one kind of server, memory for their queues, and calls on their runs.
 use crate::draw::calls::{Call, Op, Style, drawn_call};
-use crate::draw::plan::{Drawn, Sort, valid};
+use crate::draw::drawn::{Drawn, Sort, valid};
 use crate::naive::lines::PlainPlan;
 use crate::random::Random;
 

@@ -1,6 +1,6 @@
 // Drawn whole plans, with memory for the result.
 use crate::draw::damage::damage;
-use crate::draw::plan::{Drawn, Sort, letter, valid};
+use crate::draw::drawn::{Drawn, Sort, letter, valid};
 use crate::random::Random;
 
 // A plan with its result memory of so many numbers, of 24.
