@@ -1,4 +1,4 @@
--- Where periods start, and the budgets of all periods that start before tick n, which together are per-period n.
+-- Where periods start, and the budgets of all periods that start before tick n, which together are per_period n.
 use Rattle.std.specs.Prelude.{◌≡◌, ℕ, suc, ◌+◌, ◌*◌, ◌/◌, ◌%◌, ◌<◌, ◌≤◌, true, false}
 use Rattle.std.proofs.Common.{ap, ◌∙◌, div-add-mod', mul-le-mul_right, lt_of_mul-lt-mul_right, arith}
 use Rattle.std.proofs.lemmas.Nat.{mod-mul-add}
