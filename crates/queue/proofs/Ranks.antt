@@ -1,4 +1,4 @@
--- What `nth` says of a place: it is taken where something stands there.
+-- What `slice_get` says of a place: it is taken where something stands there.
 use Rattle.std.proofs.Common.{◌≡◌, ℕ, zero, suc, ◌<◌, List, [], ◌∷◌, length, Some, None, refl, ap, arith}
 use Rattle.std.specs.List.{slice_get, remove}
 use Rattle.std.proofs.lemmas.Option.{slice_get_past}

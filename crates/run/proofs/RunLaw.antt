@@ -1,4 +1,4 @@
--- The law of a run holds for every lawful kind and all lines within their bounds.
+-- The laws of a run hold for every lawful kind, all lines within their bounds whose letters it serves, and any room of the queues.
 use Rattle.std.proofs.Common.{ℕ, List, refl}
 use Rattle.std.specs.List.{AllByRecursion}
 use Rattle.server.specs.Kind.{Kind}

@@ -17,7 +17,7 @@ untimed_timed : (time : ℕ) (xs : List Completion) → untimed (timed time xs) 
 untimed_timed time [] = refl
 untimed_timed time (x ∷ xs) = ap (λ rest. x ∷ rest) (untimed_timed time xs)
 
-pub untimed_made : {k : Kind} (m : Machine k) (cs : List Call) → untimed (made_at m cs) ≡ made m cs
+untimed_made : {k : Kind} (m : Machine k) (cs : List Call) → untimed (made_at m cs) ≡ made m cs
 untimed_made m [] = refl
 untimed_made m (c ∷ cs) =
     map-append (λ x. x.completion) (made_at m cs) (timed (after m (c ∷ cs)).time (makes c (after m cs)))
@@ -33,12 +33,12 @@ untimed_jobs i [] = refl
 untimed_jobs i (x ∷ xs) =
     untimed_kept (eqb x.completion.line i && eqb x.completion.number 0) x (of_jobs_at i xs) (of_jobs i (untimed xs)) (untimed_jobs i xs)
 
--- a place in what was made
+-- what stands at a place among those made with their times stands there among those made
 made_there : {k : Kind} (m : Machine k) (cs : List Call) (j : ℕ) (x : Made) → slice_get (made_at m cs) j ≡ Some x → slice_get (made m cs) j ≡ Some x.completion
 made_there m cs j x at = ap (λ xs. slice_get xs j) (sym (untimed_made m cs)) ∙ map_at (λ y. y.completion) (made_at m cs) j x at
 
 module _ (k : Kind) (ls : List Line) (m : Machine k) (cs : List Call) where
-  -- a completion that ended a job within some ticks of its arrival says that it took no more
+  -- the clause on jobs follows from the one with times
   pub jobs_made : JobsAt k ls m cs → Jobs k ls m cs
   jobs_made jobs i t line some j passed =
       let x = jobs i t line some j passed in (
@@ -49,6 +49,7 @@ module _ (k : Kind) (ls : List Line) (m : Machine k) (cs : List Call) where
         x.2.1,
       )
 
+  -- and so does the clause on requests
   pub requests_made : RequestsAt k ls m cs → Requests k ls m cs
   requests_made requests since before i amount number s state is line some granted at empty covered passed =
       let x = requests since before i amount number s state is line some granted at empty covered passed in

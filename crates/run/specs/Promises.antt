@@ -90,20 +90,20 @@ abbrev pub Delivered : {k : Kind} → Machine k → List Call → Type 0
 Delivered m cs = handed m cs ++ (after m cs).completed ≡ made m cs
 
 module _ (k : Kind) (ls : List Line) (m : Machine k) (cs : List Call) where
-  -- jobs: as above, and the completion ended job j and no other
+  -- jobs: as above, and it was made as many ticks after the arrival of job j as it says
   abbrev pub JobsAt : Type 0
   JobsAt =
       (i : ℕ) (t : plan_task.Task) → slice_get ls i ≡ Some (Task t) → (time_of k (take i ls) (Task t) ≢ 0) → (j : ℕ)
       → arrival t j + time_of k (take i ls) (Task t) ≤ (after m cs).time
       → (x : Made) × (slice_get (of_jobs_at (suc i) (made_at m cs)) j ≡ Some x) × Ends (arrival t j) (time_of k (take i ls) (Task t)) x
 
-  -- jobs end in order: the j-th completion of the jobs of a line, whenever it was made, ended job j, within the response time
+  -- jobs end in order: the j-th completion of the jobs of a line, whenever it was made, is that of job j, within the response time
   abbrev pub InOrder : Type 0
   InOrder =
       (i : ℕ) (t : plan_task.Task) → slice_get ls i ≡ Some (Task t) → (time_of k (take i ls) (Task t) ≢ 0) → (j : ℕ) (x : Made)
       → slice_get (of_jobs_at (suc i) (made_at m cs)) j ≡ Some x → Ends (arrival t j) (time_of k (take i ls) (Task t)) x
 
-  -- requests: as above, and the completion was made as many ticks after the offer as it says
+  -- requests: as above, and it was made as many ticks after the offer as it says
   abbrev pub RequestsAt : Type 0
   RequestsAt =
       (since before : List Call) (i amount number : ℕ) (s : ServerLine) (state : k.State)

@@ -41,7 +41,7 @@ fn fresh_rows<S: Server + Copy>(plan: &AdmittedPlan<S>, count: usize) -> [RunLin
 
 impl<S: Server + Copy> Run<S> {
     // A run of an admitted plan, which it uses up. Both queues are emptied, and the caller gives the same two with each later
-    // call. After any calls tried on the run, granted or refused, the law of a run holds.
+    // call. After any calls tried on the run, granted or refused, the laws of a run hold.
     pub fn start(
         plan: AdmittedPlan<S>,
         requests: &mut Queue<'_, Request>,
