@@ -74,6 +74,10 @@ unfoldable pub encoded : Line → List ℕ
 encoded (Task t) = record_of 84 t.work t.period t.deadline t.first
 encoded (Server s) = record_of s.letter s.budget s.period 0 0
 
+-- stands where a list has no line; no plan holds it
+abbrev pub blank : Line
+blank = Task (record { work = 0; period = 0; deadline = 0; first = 0 })
+
 -- a line within its bounds
 abbrev pub Fit : Line → Type 0
 Fit (Task t) = (1 ≤ t.work) × (t.work ≤ t.deadline) × (t.deadline ≤ t.period) × (t.period ≤ 1000000) × (t.first < t.period)

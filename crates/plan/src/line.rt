@@ -1,10 +1,10 @@
 // A line of a plan. Its line number is its place, and the first line has the highest priority.
 ghost use Rattle.std.specs.Prelude.{◌≡◌};
-ghost use Rattle.plan.specs.Records.{is_server, letter_of};
+ghost use Rattle.plan.specs.Records.{blank, is_server, letter_of};
 
 // A periodic task. Its jobs arrive at `first`, `first + period`, and so on; each asks for `work` ticks
 // and has to end within `deadline` ticks of its arrival.
-#[derive(Clone, Copy)]
+#[derive(Clone, Copy, Default)]
 pub struct Task {
     pub work: u32,
     pub period: u32,
@@ -25,6 +25,15 @@ pub struct ServerLine {
 pub enum Line {
     Task(Task),
     Server(ServerLine),
+}
+
+// Stands where there is no line.
+impl Default for Line {
+    ghost is_default = { λ line. line ≡ blank };
+
+    fn default() -> Line {
+        Line::Task(Task::default())
+    }
 }
 
 impl Line {
