@@ -7,5 +7,6 @@ pub mod Reports
 pub mod Requests
 pub mod Rows
 pub mod Runs
+pub mod Sessions
 pub mod Tries
 pub mod Views

@@ -9,4 +9,5 @@ pub mod report;
 mod requests;
 mod rows;
 pub mod run;
+pub mod session;
 mod work;
