@@ -38,3 +38,7 @@ answer (Err f) = refused (number_of f.refusal) f.«record» f.byte
 abbrev pub placed : ℕ → Decoded → Answer Line
 placed n (line l) = granted l
 placed n (fault number byte) = refused number (cond (number == 1) 0 n) byte
+
+-- the fault of a record as a whole
+abbrev pub whole_record : Refusal → ℕ → Fault
+whole_record r n = record { refusal = r; «record» = n; byte = 0 }

@@ -1,10 +1,13 @@
 // Why something is refused, and where.
-ghost use Rattle.std.specs.Prelude.{◌≡◌};
-ghost use Rattle.plan.specs.Answers.{number_of};
+ghost use Rattle.std.specs.Prelude.{◌≡◌, Some};
+ghost use Rattle.plan.specs.Answers.{number_of, whole_record};
 ghost use Rattle.plan.specs.Fields.{located};
+ghost use Rattle.plan.specs.Shown.{shown_fault};
+
+use std::fmt;
 
 // A refusal, by its number.
-#[derive(Clone, Copy)]
+#[derive(Clone, Copy, Debug, PartialEq, Eq)]
 pub enum Refusal {
     // a record not 20 bytes long, or a plan not made of whole records
     Length = 1,
@@ -37,10 +40,29 @@ impl Refusal {
     {
         self as u32
     }
+
+    // The fault of a record as a whole, which names byte 0.
+    pub fn at(self, row: u32) -> Fault
+        ensures { result ≡ whole_record self row }
+    {
+        Fault {
+            refusal: self,
+            record: row,
+            byte: 0,
+        }
+    }
+}
+
+impl From<Refusal> for u32 {
+    ghost from_gives = { λ refusal n. n ≡ number_of refusal };
+
+    fn from(refusal: Refusal) -> u32 {
+        refusal.number()
+    }
 }
 
 // The fault of one field of a record, by the field. The place follows from it.
-#[derive(Clone, Copy)]
+#[derive(Clone, Copy, Debug, PartialEq, Eq)]
 pub enum FieldFault {
     Letter,
     // one of the zero bytes, by its place from 1 to 3
@@ -52,7 +74,7 @@ pub enum FieldFault {
 }
 
 // The fault of one record: the refusal, and the byte where the faulty field begins.
-#[derive(Clone, Copy)]
+#[derive(Clone, Copy, Debug, PartialEq, Eq)]
 pub struct RecordFault {
     pub refusal: Refusal,
     pub byte: u32,
@@ -76,9 +98,19 @@ impl From<FieldFault> for RecordFault {
 }
 
 // The fault of a record in its plan. Records count from 1; 0 where the fault names none.
-#[derive(Clone, Copy)]
+#[derive(Clone, Copy, Debug, PartialEq, Eq)]
 pub struct Fault {
     pub refusal: Refusal,
     pub record: u32,
     pub byte: u32,
+}
+
+impl fmt::Display for Fault {
+    ghost output = { λ f. Some (shown_fault f) };
+
+    fn fmt<W: fmt::Write>(&self, f: &mut fmt::Formatter<W>) -> fmt::Result {
+        let number = self.refusal.number();
+        let Fault { record, byte, .. } = self;
+        write!(f, "refused {number} record {record} byte {byte}")
+    }
 }

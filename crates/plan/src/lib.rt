@@ -5,4 +5,5 @@ pub mod decode;
 pub mod encode;
 pub mod fault;
 mod field;
+pub mod kind;
 pub mod line;

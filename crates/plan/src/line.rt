@@ -2,9 +2,11 @@
 ghost use Rattle.std.specs.Prelude.{◌≡◌};
 ghost use Rattle.plan.specs.Records.{blank, is_server, letter_of};
 
+use crate::kind::ServerKind;
+
 // A periodic task. Its jobs arrive at `first`, `first + period`, and so on; each asks for `work` ticks
 // and has to end within `deadline` ticks of its arrival.
-#[derive(Clone, Copy, Default)]
+#[derive(Clone, Copy, Debug, Default, PartialEq, Eq)]
 pub struct Task {
     pub work: u32,
     pub period: u32,
@@ -14,14 +16,15 @@ pub struct Task {
 
 // A server for irregular work: its letter (P polling, D deferrable, S sporadic), and the budget that it has
 // in each period.
-#[derive(Clone, Copy)]
+#[derive(Clone, Copy, Debug, PartialEq, Eq)]
 pub struct ServerLine {
+    // A byte and no ServerKind: it holds any letter, and what a public field takes may not become narrower.
     pub letter: u8,
     pub budget: u32,
     pub period: u32,
 }
 
-#[derive(Clone, Copy)]
+#[derive(Clone, Copy, Debug, PartialEq, Eq)]
 pub enum Line {
     Task(Task),
     Server(ServerLine),
@@ -52,5 +55,5 @@ impl Line {
 pub fn is_server(letter: u8) -> bool
     ensures { result ≡ is_server letter }
 {
-    matches!(letter, b'P' | b'D' | b'S')
+    ServerKind::try_from(letter).is_ok()
 }
