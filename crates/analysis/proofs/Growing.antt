@@ -1,15 +1,11 @@
 -- What is known of a line that a record adds.
-use Rattle.std.proofs.Common.{◌≡◌, ℕ, suc, ◌+◌, ◌<◌, true, List, length, sym, refl, ap, arith, rules}
+use Rattle.std.proofs.Common.{◌≡◌, ℕ, suc, ◌+◌, ◌<◌, true, List, length, refl, ap, arith, rules}
 use Rattle.server.specs.Kind.{Kind}
-use Rattle.server.specs.declared.kind.Server.{Ghosts}
 use Rattle.plan.specs.Answers.{Answer, granted, placed}
 use Rattle.plan.specs.Records.{Decoded, line, fault, decoded, Fit}
 use Rattle.plan.specs.declared.line.Line.{Line}
 use Rattle.plan.proofs.DecodedLine.{decoded_fit}
-use Rattle.analysis.specs.Drafts.{lines}
 use Rattle.analysis.specs.Growth.{servers, served, joins, joins_if, added}
-use Rattle.analysis.specs.declared.draft.Draft.{Draft}
-use Rattle.analysis.proofs.StoredLines.{lines_length}
 
 -- a line that is granted is within its bounds, has room, and is served
 pub record Grants (k : Kind) (ls : List Line) (l : Line) : Type 0 where
@@ -38,8 +34,3 @@ module _ (k : Kind) (ls : List Line) (bs : List ℕ) where
   pub added_grants : (l : Line) → added k ls bs ≡ granted l → Grants k ls l
   unfolding added
   added_grants l e = grants l (decoded bs) refl e
-
--- of a draft
-pub added_to : (k : Kind) {S : Type 0} {g : Ghosts S} (d : Draft S g) (bs : List ℕ) (server_count : ℕ) → server_count ≡ servers (lines d) → (a : Answer Line) → a ≡ placed (d.count + 1) (decoded bs)
-    → added k (lines d) bs ≡ joins_if k d.count server_count a
-added_to k d bs server_count many a is = added_from k (lines d) bs d.count server_count (sym (lines_length d)) many a is

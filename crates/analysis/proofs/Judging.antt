@@ -3,7 +3,7 @@ use Rattle.std.proofs.Common.{◌≡◌, ℕ, zero, suc, ◌+◌, ◌-◌, ◌<�
 use Rattle.std.proofs.lemmas.Bool.{cases_eq, cond-true, cond-false, eq-eqb, ne_eqb}
 use Rattle.server.specs.Kind.{Kind}
 use Rattle.plan.specs.declared.line.Line.{Line}
-use Rattle.analysis.specs.Equation.{blank}
+use Rattle.plan.specs.Records.{blank}
 use Rattle.analysis.specs.Response.{time_of}
 use Rattle.analysis.specs.Times.{times}
 use Rattle.analysis.specs.Verdicts.{passes, fails, verdict_from, verdict, Passes, Judges}

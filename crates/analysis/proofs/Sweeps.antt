@@ -3,7 +3,7 @@ use Rattle.std.proofs.Common.{◌≡◌, ℕ, zero, suc, ◌+◌, ◌<◌, ◌�
 use Rattle.std.proofs.lemmas.List.{take_more, drop_more, set_at, length-take-le, append-nil}
 use Rattle.server.specs.Kind.{Kind}
 use Rattle.plan.specs.declared.line.Line.{Line}
-use Rattle.analysis.specs.Equation.{blank}
+use Rattle.plan.specs.Records.{blank}
 use Rattle.analysis.specs.Response.{time_of}
 use Rattle.analysis.specs.Times.{times, times_below}
 

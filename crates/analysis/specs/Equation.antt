@@ -6,10 +6,6 @@ use Rattle.plan.specs.declared.line.Line.{Line}
 use Rattle.plan.specs.declared.line.Line.TheVariants.{Task, Server}
 use Rattle.plan.specs.declared.line.ServerLine.{ServerLine}
 
--- stands where a list has no line; no plan holds it
-abbrev pub blank : Line
-blank = Task (record { work = 0; period = 0; deadline = 0; first = 0 })
-
 -- a line's own work: the work of a task, the budget of a server
 abbrev pub own : Line → ℕ
 own (Task t) = t.work

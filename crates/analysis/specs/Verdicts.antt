@@ -2,9 +2,9 @@
 use Rattle.std.specs.Prelude.{◌≡◌, ℕ, suc, ◌-◌, ◌<◌, ◌≤◌, cond, List, [], ◌∷◌, length, take, Ok, Err, Result, ◌==◌, slice_index_or}
 use Rattle.server.specs.Kind.{Kind}
 use Rattle.plan.specs.Answers.{number_of}
+use Rattle.plan.specs.Records.{blank}
 use Rattle.plan.specs.declared.line.Line.{Line}
 use Rattle.analysis.specs.declared.fault.LineFault.{LineFault}
-use Rattle.analysis.specs.Equation.{blank}
 use Rattle.analysis.specs.Response.{Solves}
 use Rattle.analysis.specs.Times.{times}
 

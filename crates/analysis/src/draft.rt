@@ -1,21 +1,24 @@
 // A draft: lines that may still change, for one kind of server.
-ghost use Rattle.std.specs.Prelude.{◌≡◌, ◌≤◌, true, length, take};
-ghost use Rattle.analysis.specs.Stored.{decodable};
+ghost use Rattle.std.specs.Prelude.{◌≤◌, length};
+ghost use Rattle.std.specs.List.{All};
+ghost use Rattle.plan.specs.Records.{Fit};
+ghost use Rattle.analysis.specs.Fitting.{all_fit_prop};
 
 mod add;
 mod asks;
+mod equation;
 mod lines;
 
+use arrayvec::ArrayVec;
+use plan::line::Line;
 use server::kind::Server;
 use std::marker::PhantomData;
 
-// The records of its lines, as bytes. Each decodes to a line.
+// Each of its lines is within its bounds.
 #[derive(Drop)]
 pub struct Draft<S: Server> {
-    records: [[u8; 20]; 20],
-    count: usize,
+    lines: ArrayVec<Line, 20>,
     kind: PhantomData<S>,
-    ghost places: { length records ≡ 20 },
-    ghost few: { count ≤ 20 },
-    ghost good: { decodable (take count records) ≡ true },
+    ghost few: { length lines.items ≤ 20 },
+    ghost fit: { All Fit lines.items } by { all_fit_prop lines.items },
 }

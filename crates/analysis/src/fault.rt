@@ -2,7 +2,7 @@
 use plan::fault::Refusal;
 
 // The refusal, and the line that it names; lines count from 1.
-#[derive(Clone, Copy)]
+#[derive(Clone, Copy, Debug, PartialEq, Eq)]
 pub struct LineFault {
     pub refusal: Refusal,
     pub line: u32,

@@ -3,6 +3,4 @@
 
 pub mod admitted;
 pub mod draft;
-mod equation;
 pub mod fault;
-mod sweep;

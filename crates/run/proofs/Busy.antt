@@ -6,7 +6,8 @@ use Rattle.std.proofs.lemmas.List.Sums.{sum_by_more}
 use Rattle.std.proofs.lemmas.Bool.{cases_Bool, cases_order, and_from, and_right, le-leb, lt-leb, eq-eqb, ne_eqb, both_ways}
 use Rattle.server.specs.Kind.{Kind}
 use Rattle.plan.specs.declared.line.Line.{Line}
-use Rattle.analysis.specs.Equation.{share, blank}
+use Rattle.plan.specs.Records.{blank}
+use Rattle.analysis.specs.Equation.{share}
 use Rattle.run.specs.Machine.{Machine, chosen}
 use Rattle.run.specs.Promises.{FreshTick}
 use Rattle.run.specs.Tries.{Call, after, found, ready_in, ran_ticks}

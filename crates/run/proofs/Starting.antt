@@ -1,15 +1,14 @@
 -- The lines of an admitted plan at time 0.
-use Rattle.std.proofs.Common.{◌≡◌, ℕ, ◌+◌, ◌<◌, ◌≤◌, List, [], ◌∷◌, ◌++◌, map, length, get_or, take, set, Some, None, sym, refl, ap, ◌∙◌, arith}
+use Rattle.std.proofs.Common.{◌≡◌, ℕ, ◌+◌, ◌<◌, ◌≤◌, List, [], ◌∷◌, ◌++◌, map, length, get_or, take, set, Some, None, sym, ap, ◌∙◌, arith}
 use Rattle.std.specs.List.{slice_get}
 use Rattle.std.proofs.lemmas.List.{take_more_set, map_push, map_more}
 use Rattle.std.proofs.lemmas.Option.{slice_get-get_or}
 use Rattle.server.specs.declared.kind.Server.{Ghosts}
 use Rattle.analysis.specs.Admission.{plan_lines}
 use Rattle.analysis.specs.declared.admitted.AdmittedPlan.{AdmittedPlan}
-use Rattle.analysis.proofs.StoredLines.{part_few}
 
 pub plan_few : {S : Type 0} {g : Ghosts S} (plan : AdmittedPlan S g) → length (plan_lines plan) ≤ 20
-plan_few plan = part_few plan.plan (plan_lines plan) refl
+plan_few plan = plan.plan.few
 
 -- one place more, seen through v, is what f makes of one line more
 module _ {A B C : Type 0} (v : B → C) (f : A → C) (lines : List A) (rows : List B) (i : ℕ) (before : map v (take i rows) ≡ map f (take i lines)) (here : i < length lines) where

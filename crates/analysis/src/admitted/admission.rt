@@ -1,6 +1,6 @@
 // Filling an admitted plan, and taking its lines back for changes.
-ghost use Rattle.std.specs.Prelude.{◌≡◌, [], length, IfSome};
-ghost use Rattle.std.specs.List.{slice_get};
+ghost use Rattle.std.specs.Prelude.{◌≡◌, ◌≤◌, [], length, IfSome};
+ghost use Rattle.std.specs.List.{All, slice_get};
 ghost use Rattle.plan.specs.Records.{Fit};
 ghost use Rattle.analysis.specs.Admission.{plan_lines, left_over, in_place};
 ghost use Rattle.analysis.specs.Drafts.{lines};
@@ -31,6 +31,15 @@ impl<S: Server> AdmittedPlan<S> {
         self.plan.len()
     }
 
+    // Its lines: at most 20, each within its bounds.
+    pub fn lines(&self) -> &[Line]
+        ensures value { result.now ≡ plan_lines self.now }
+        ensures few { length result.now ≤ 20 }
+        ensures fit { All Fit result.now }
+    {
+        self.plan.lines()
+    }
+
     // The line at a place, counted from 0; none past the last line.
     pub fn line(&self, place: usize) -> Option<Line>
         ensures value { result ≡ slice_get (plan_lines self.now) place }
@@ -51,7 +60,7 @@ impl<S: Server> AdmittedPlan<S> {
         ensures rest { lines draft.new ≡ [] }
         ensures plan { plan_lines self.new ≡ lines draft.old }
     {
-        self.plan = mem::replace(draft, Draft::new());
+        self.plan = mem::take(draft);
     }
 
     // Puts the lines of a draft that passes in place of its own, and leaves the draft empty. Where a line does not pass,

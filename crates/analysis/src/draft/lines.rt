@@ -1,33 +1,14 @@
 // The lines of a draft.
-ghost use Rattle.std.specs.Prelude.{◌≡◌, ℕ, ◌≤◌, [], length, take, IfSome};
-ghost use Rattle.std.specs.List.{slice_get};
+ghost use Rattle.std.specs.Prelude.{◌≡◌, ◌≤◌, [], length, IfSome};
+ghost use Rattle.std.specs.List.{All, slice_get};
 ghost use Rattle.plan.specs.Records.{Fit};
 ghost use Rattle.analysis.specs.Drafts.{lines};
-ghost use Rattle.analysis.specs.Stored.{line_of};
 
 use crate::draft::Draft;
-use plan::decode::decode;
-use plan::line::{Line, Task};
+use arrayvec::ArrayVec;
+use plan::line::Line;
 use server::kind::Server;
 use std::marker::PhantomData;
-
-// Stands in the places that hold no line.
-const BLANK: Line = Line::Task(Task {
-    work: 0,
-    period: 0,
-    deadline: 0,
-    first: 0,
-});
-
-// The line of a record.
-fn line_of(bytes: &[u8]) -> Line
-    ensures { result ≡ line_of bytes.now }
-{
-    match decode(bytes) {
-        Ok(line) => line,
-        Err(_) => BLANK,
-    }
-}
 
 impl<S: Server> Draft<S> {
     // An empty draft.
@@ -35,8 +16,7 @@ impl<S: Server> Draft<S> {
         ensures { lines result ≡ [] }
     {
         Draft {
-            records: [[0; 20]; 20],
-            count: 0,
+            lines: ArrayVec::new(),
             kind: PhantomData,
         }
     }
@@ -45,7 +25,16 @@ impl<S: Server> Draft<S> {
     pub fn len(&self) -> usize
         ensures { result ≡ length (lines self.now) }
     {
-        self.count
+        self.lines.len()
+    }
+
+    // Its lines: at most 20, each within its bounds.
+    pub fn lines(&self) -> &[Line]
+        ensures value { result.now ≡ lines self.now }
+        ensures few { length result.now ≤ 20 }
+        ensures fit { All Fit result.now }
+    {
+        self.lines.as_slice()
     }
 
     // The line at a place, counted from 0; none past the last line.
@@ -53,21 +42,14 @@ impl<S: Server> Draft<S> {
         ensures value { result ≡ slice_get (lines self.now) place }
         ensures fit { IfSome result Fit }
     {
-        if place < self.count {
-            Some(line_of(&self.records[place]))
-        } else {
-            None
-        }
+        self.lines.get(place).copied()
     }
+}
 
-    // Its lines, decoded; the places past them are blank.
-    pub(crate) fn decoded(&self) -> [Line; 20]
-        ensures { take self.now.count result ≡ lines self.now }
-    {
-        let mut all = [BLANK; 20];
-        for i in 0..self.count {
-            all[i] = line_of(&self.records[i]);
-        }
-        all
+impl<S: Server> Default for Draft<S> {
+    ghost is_default = { λ draft. lines draft ≡ [] };
+
+    fn default() -> Self {
+        Draft::new()
     }
 }

@@ -1,5 +1,6 @@
 use Rattle.std.proofs.Common.{sym, subst}
-use Rattle.analysis.proofs.StoredLines.{lines_fit}
+use Rattle.std.proofs.lemmas.List.Elements.{recursion_from_All}
+use Rattle.plan.specs.Records.{Fit}
 use Rattle.analysis.specs.Admission.{plan_lines}
 use Rattle.run.specs.Promises.{Law, Timing}
 use Rattle.run.proofs.RunLaw.{law, timing}
@@ -12,8 +13,8 @@ returns g c =
       begun = c.begin.ensures;
       law = λ served.
           subst (Law g.S.Server.kind ls) (sym c.begin.ensures)
-          (law g.S.Server.kind g.met.S.Server.lawful ls (lines_fit c.args.plan.plan) served _ _);
+          (law g.S.Server.kind g.met.S.Server.lawful ls (recursion_from_All Fit ls c.args.plan.plan.fit) served _ _);
       timing = λ served.
           subst (Timing g.S.Server.kind ls) (sym c.begin.ensures)
-          (timing g.S.Server.kind g.met.S.Server.lawful ls (lines_fit c.args.plan.plan) served _ _);
+          (timing g.S.Server.kind g.met.S.Server.lawful ls (recursion_from_All Fit ls c.args.plan.plan.fit) served _ _);
     }

@@ -1,6 +1,6 @@
 use Rattle.std.proofs.Common.{arith, rules}
 use Rattle.std.proofs.lemmas.Nat.{mul-le}
-use Rattle.analysis.proofs.equation.share_of.Goals as goal
+use Rattle.analysis.proofs.draft.equation.share_of.Goals as goal
 
 pub returns-in-Task : goal.returns-in-Task
 returns-in-Task g c =
