@@ -1,5 +1,5 @@
 -- A line and its record: each gives the other back.
-use Rattle.std.proofs.Common.{◌≡◌, ℕ, ◌+◌, ◌^◌, ◌<◌, ◌≤◌, Bool, true, false, cond, eqb, List, ◌++◌, length, get_or, drop, ◌∙◌, arith, rules}
+use Rattle.std.proofs.Common.{◌≡◌, ℕ, ◌+◌, ◌^◌, ◌<◌, ◌≤◌, Bool, true, false, cond, eqb, List, [], ◌∷◌, ◌++◌, length, get_or, drop, ◌∙◌, arith, rules}
 use Rattle.std.proofs.lemmas.List.{drop_more, drop_all}
 use Rattle.plan.proofs.DecodedLine.{decoded_passes}
 use Rattle.plan.proofs.NumberBytes.{four, number_bytes, bytes_number}
@@ -10,7 +10,7 @@ use Rattle.plan.specs.declared.line.Line.TheVariants.{Task, Server}
 
 -- a record is read by its five parts
 decoded_record : (letter work period deadline first : ℕ) → work < 2 ^ 32 → period < 2 ^ 32 → deadline < 2 ^ 32 → first < 2 ^ 32 →
-    decoded (record_of letter work period deadline first) ≡ head letter 0 0 0 (numbers letter work period deadline first)
+    decoded (record_of letter (work ∷ period ∷ deadline ∷ first ∷ [])) ≡ head letter (0 ∷ 0 ∷ 0 ∷ []) (numbers letter work period deadline first)
 unfolding decoded
 decoded_record letter work period deadline first w p d f =
     rw (number_bytes work w, number_bytes period p, number_bytes deadline d, number_bytes first f)
@@ -27,7 +27,7 @@ passed false n k rest l e = cc
 
 -- the line that these five make has the record of them: first by its kind, then with the checks of period and work
 kind_bytes : (letter work period deadline first : ℕ) (l : Line) → cond (eqb letter 84) (task work period deadline first) (server letter work period deadline first) ≡ line l →
-    encoded l ≡ record_of letter work period deadline first
+    encoded l ≡ record_of letter (work ∷ period ∷ deadline ∷ first ∷ [])
 unfolding encoded
 kind_bytes letter work period deadline first (Task t) e =
     let same : (letter ≡ 84) × (t.work ≡ work) × (t.period ≡ period) × (t.deadline ≡ deadline) × (t.first ≡ first) = search rules in
@@ -36,7 +36,7 @@ kind_bytes letter work period deadline first (Server s) e =
     let same : (s.letter ≡ letter) × (s.budget ≡ work) × (s.period ≡ period) × (deadline ≡ 0) × (first ≡ 0) = search rules in
     cc
 
-numbers_bytes : (letter work period deadline first : ℕ) (l : Line) → numbers letter work period deadline first ≡ line l → encoded l ≡ record_of letter work period deadline first
+numbers_bytes : (letter work period deadline first : ℕ) (l : Line) → numbers letter work period deadline first ≡ line l → encoded l ≡ record_of letter (work ∷ period ∷ deadline ∷ first ∷ [])
 numbers_bytes letter work period deadline first l e =
     kind_bytes letter work period deadline first l (passed (within 1 work period) 5 4 _ l (passed (within 1 period 1000000) 4 8 _ l e))
 

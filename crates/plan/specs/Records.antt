@@ -5,7 +5,8 @@
 --   bytes 8 to 11  period, from 1 to 1,000,000
 --   bytes 12 to 15 deadline of a task, from its work to its period; zero for a server
 --   bytes 16 to 19 first arrival of a task, below its period; zero for a server
-use Rattle.std.specs.Prelude.{◌≡◌, ℕ, ◌<◌, ◌≤◌, Bool, true, false, cond, ◌&&◌, ◌||◌, List, ◌∷◌, ◌++◌, length, ◌==◌, nat_le, nat_lt, slice_index}
+use Rattle.std.specs.Prelude.{◌≡◌, ℕ, suc, ◌<◌, ◌≤◌, Bool, true, false, cond, ◌&&◌, ◌||◌, List, [], ◌∷◌, length, ◌==◌, nat_le, nat_lt, slice_index}
+use Rattle.std.specs.List.{flat_map}
 use Rattle.plan.specs.Bytes.{number, bytes}
 use Rattle.plan.specs.declared.line.Line.{Line}
 use Rattle.plan.specs.declared.line.Line.TheVariants.{Task, Server}
@@ -47,16 +48,20 @@ numbers letter work period deadline first =
     check (within 1 period 1000000) 4 8
     (check (within 1 work period) 5 4 (cond (letter == 84) (task work period deadline first) (server letter work period deadline first)))
 
+-- bytes that have to be zero, the first of them byte k, then the rest of the record
+abbrev pub zeros : (k : ℕ) → List ℕ → Decoded → Decoded
+zeros k [] rest = rest
+zeros k (z ∷ zs) rest = check (z == 0) 3 k (zeros (suc k) zs rest)
+
 -- the letter and the three zero bytes of a record, then the rest of it
-abbrev pub head : (letter z1 z2 z3 : ℕ) → Decoded → Decoded
-head letter z1 z2 z3 rest =
-    check (is_letter letter) 2 0 (check (z1 == 0) 3 1 (check (z2 == 0) 3 2 (check (z3 == 0) 3 3 rest)))
+abbrev pub head : (letter : ℕ) → List ℕ → Decoded → Decoded
+head letter zs rest = check (is_letter letter) 2 0 (zeros 1 zs rest)
 
 -- the faults are looked for in rising order of their numbers
 unfoldable pub decoded : List ℕ → Decoded
 decoded bs =
     check (length bs == 20) 1 0
-    (head (slice_index bs 0) (slice_index bs 1) (slice_index bs 2) (slice_index bs 3)
+    (head (slice_index bs 0) (slice_index bs 1 ∷ slice_index bs 2 ∷ slice_index bs 3 ∷ [])
     (numbers (slice_index bs 0) (number bs 4) (number bs 8) (number bs 12) (number bs 16)))
 
 -- the letter of a line
@@ -64,19 +69,18 @@ abbrev pub letter_of : Line → ℕ
 letter_of (Task t) = 84
 letter_of (Server s) = s.letter
 
--- the record of a letter and four numbers
-abbrev pub record_of : (letter work period deadline first : ℕ) → List ℕ
-record_of letter work period deadline first =
-    letter ∷ 0 ∷ 0 ∷ 0 ∷ (bytes work ++ (bytes period ++ (bytes deadline ++ bytes first)))
-
--- the 20 bytes of a line
-unfoldable pub encoded : Line → List ℕ
-encoded (Task t) = record_of 84 t.work t.period t.deadline t.first
-encoded (Server s) = record_of s.letter s.budget s.period 0 0
-
 -- stands where a list has no line; no plan holds it
 abbrev pub blank : Line
 blank = Task (record { work = 0; period = 0; deadline = 0; first = 0 })
+
+-- the record of a letter and numbers
+abbrev pub record_of : ℕ → List ℕ → List ℕ
+record_of letter ns = letter ∷ 0 ∷ 0 ∷ 0 ∷ flat_map bytes ns
+
+-- the 20 bytes of a line
+unfoldable pub encoded : Line → List ℕ
+encoded (Task t) = record_of 84 (t.work ∷ t.period ∷ t.deadline ∷ t.first ∷ [])
+encoded (Server s) = record_of s.letter (s.budget ∷ s.period ∷ 0 ∷ 0 ∷ [])
 
 -- a line within its bounds
 abbrev pub Fit : Line → Type 0

@@ -4,7 +4,7 @@ ghost use Rattle.plan.specs.Answers.{answer, decodes, placed};
 ghost use Rattle.plan.specs.Records.{Fit, decoded, encoded};
 
 use crate::fault::{Fault, RecordFault, Refusal};
-use crate::field::fields;
+use crate::field::Fields;
 use crate::line::Line;
 
 // The line of a record. Where there is one, it is within its bounds, and its bytes are the record.
@@ -13,34 +13,18 @@ pub fn decode(bytes: &[u8]) -> Result<Line, RecordFault>
     ensures fit { IfOk result Fit }
     ensures back { IfOk result (λ l. encoded l ≡ bytes.now) }
 {
-    if bytes.len() != 20 {
+    let Ok(bytes) = <&[u8; 20]>::try_from(bytes) else {
         return Err(RecordFault {
             refusal: Refusal::Length,
             byte: 0,
         });
-    }
-    let [letter, z1, z2, z3, numbers @ ..] = bytes else {
-        unreachable()
     };
-    Ok(fields(*letter, *z1, *z2, *z3, numbers)?)
+    Ok(Fields::of(bytes).line()?)
 }
 
 // What a record of this number decoded to, its fault with the number. A fault of the length names record 0.
 pub fn in_record(outcome: Result<Line, RecordFault>, row: u32) -> Result<Line, Fault>
     ensures { answer result ≡ placed row (decodes outcome) }
 {
-    match outcome {
-        Ok(line) => Ok(line),
-        Err(RecordFault { refusal, byte }) => {
-            let record = match refusal {
-                Refusal::Length => 0,
-                _ => row,
-            };
-            Err(Fault {
-                refusal,
-                record,
-                byte,
-            })
-        }
-    }
+    outcome.map_err(|fault| fault.in_record(row))
 }

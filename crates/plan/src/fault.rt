@@ -1,8 +1,9 @@
 // Why something is refused, and where.
 ghost use Rattle.std.specs.Prelude.{◌≡◌, Some};
-ghost use Rattle.plan.specs.Answers.{number_of, whole_record};
+ghost use Rattle.plan.specs.Answers.{answer, decodes, number_of, placed, whole_record};
 ghost use Rattle.plan.specs.Fields.{located};
 ghost use Rattle.plan.specs.Shown.{shown_fault};
+ghost use Rattle.plan.specs.declared.line.Line.{Line};
 
 use std::fmt;
 
@@ -78,6 +79,23 @@ pub enum FieldFault {
 pub struct RecordFault {
     pub refusal: Refusal,
     pub byte: u32,
+}
+
+impl RecordFault {
+    // The fault with the record's number. A fault of the length names record 0.
+    pub(crate) fn in_record(self, row: u32) -> Fault
+        ensures { answer {A = Line} (Err result) ≡ placed row (decodes (Err self)) }
+    {
+        let record = match self.refusal {
+            Refusal::Length => 0,
+            _ => row,
+        };
+        Fault {
+            refusal: self.refusal,
+            record,
+            byte: self.byte,
+        }
+    }
 }
 
 // A field's fault with its place in the record.
