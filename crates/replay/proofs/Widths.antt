@@ -2,9 +2,9 @@
 use Rattle.std.proofs.Common.{ℕ, ◌+◌, ◌^◌, ◌<◌, ◌≤◌, List, length, arith, lit<}
 use Rattle.std.proofs.lemmas.Fmt.{length-decimal-le}
 use Rattle.std.proofs.lemmas.List.{length-append}
-use Rattle.text.specs.Written.{labelled}
+use Rattle.text.specs.Written.{tagged, labelled}
 
 -- a word and a number of 64 bits
 pub labelled_width : (word : List ℕ) (n : ℕ) → n < 2 ^ 64 → length (labelled word n) ≤ length word + 20
-unfolding labelled
+unfolding tagged
 labelled_width word n small = simp length-append (omega (arith, length-decimal-le 20 n (lit< tt) (omega arith) (omega arith)))

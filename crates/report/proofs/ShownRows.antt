@@ -1,9 +1,11 @@
 -- The rows of a text, one after the other.
-use Rattle.std.proofs.Common.{◌≡◌, ℕ, suc, ◌+◌, ◌*◌, ◌<◌, ◌≤◌, cond, eqb, List, [], ◌++◌, length, get_or, take, drop, sym, ap, ◌∙◌, add-one}
+use Rattle.std.proofs.Common.{◌≡◌, ℕ, suc, ◌+◌, ◌*◌, ◌<◌, ◌≤◌, Bool, true, false, cond, eqb, Option, Some, None, refl, List, [], ◌∷◌, ◌++◌, length, get_or, take, drop, sym, ap, ◌∙◌, add-one}
 use Rattle.std.proofs.lemmas.List.{drop_more, drop_all}
 use Rattle.text.specs.Written.{room}
 use Rattle.text.proofs.Cuts.{added_twice}
-use Rattle.analysis.specs.Verdicts.{passes, fails, verdict_from}
+use Rattle.std.specs.List.{position, position_from}
+use Rattle.std.proofs.lemmas.Iterator.Adapters.{position_from-zero}
+use Rattle.analysis.specs.Verdicts.{Verdict, passes, fails, verdict_from}
 use Rattle.report.specs.Rows.{row, rows}
 
 module _ (bs ts : List ℕ) where
@@ -20,12 +22,19 @@ module _ (bs ts : List ℕ) where
   pub rows_end : (i : ℕ) → length ts ≤ i → rows bs i (drop i ts) ≡ []
   rows_end i past = ap (rows bs i) (drop_all i ts past)
 
--- the verdict on the times from place i on
-pub verdict_more : (ts : List ℕ) (i : ℕ) → i < length ts
-    → verdict_from (suc i) (drop i ts) ≡ cond (eqb (get_or ts i 0) 0) (fails 18 (i + 1)) (verdict_from (suc (i + 1)) (drop (i + 1) ts))
-verdict_more ts i within =
-    ap (verdict_from (suc i)) (drop_more ts i 0 within)
-    ∙ ap (λ n. cond (eqb (get_or ts i 0) 0) (fails 18 n) (verdict_from (suc n) (drop (i + 1) ts))) (sym (add-one i))
+-- the verdict that names the line at this place, if there is one
+abbrev pub naming : Option ℕ → Verdict
+naming None = passes
+naming (Some place) = fails 18 (place + 1)
 
-pub verdict_end : (ts : List ℕ) (i : ℕ) → length ts ≤ i → verdict_from (suc i) (drop i ts) ≡ passes
-verdict_end ts i past = ap (verdict_from (suc i)) (drop_all i ts past)
+naming_from : (i : ℕ) (ts : List ℕ) → verdict_from (suc i) ts ≡ naming (position_from (λ t. eqb t 0) i ts)
+naming_from i [] = refl
+naming_from i (t ∷ ts) = pick (eqb t 0) (naming_from (i + 1) ts)
+  where
+    pick : (b : Bool) → verdict_from (suc (i + 1)) ts ≡ naming (position_from (λ t. eqb t 0) (i + 1) ts)
+        → cond b (fails 18 (suc i)) (verdict_from (suc (suc i)) ts) ≡ naming (cond b (Some i) (position_from (λ t. eqb t 0) (i + 1) ts))
+    pick true e = ap (fails 18) (sym (add-one i))
+    pick false e = ap (λ n. verdict_from (suc n) ts) (sym (add-one i)) ∙ e
+
+pub verdict_named : (ts : List ℕ) → verdict_from 1 ts ≡ naming (position (λ t. eqb t 0) ts)
+verdict_named ts = naming_from 0 ts ∙ ap naming (sym (position_from-zero (λ t. eqb t 0) ts))

@@ -5,7 +5,8 @@ use Rattle.std.proofs.lemmas.Fmt.{length-decimal-le}
 use Rattle.std.proofs.lemmas.List.{length-append}
 use Rattle.std.proofs.lemmas.Bool.{cond_both}
 use Rattle.analysis.specs.Verdicts.{fails, verdict_from}
-use Rattle.report.specs.Rows.{row, rows, shown_time, labelled, verdict_row, fault_row}
+use Rattle.text.specs.Written.{tagged}
+use Rattle.report.specs.Rows.{row, rows, shown_time, verdict_row, fault_row}
 
 time_width : (t : ℕ) → t ≤ 1000000 → length (shown_time t) ≤ 7
 time_width t small =
@@ -25,7 +26,7 @@ rows_width bs i (t ∷ ts) few small =
     simp length-append (omega (arith, this, rest))
 
 verdict_width : (i : ℕ) (ts : List ℕ) → i + length ts ≤ 99 → length (verdict_row (verdict_from i ts)) ≤ 9
-unfolding labelled
+unfolding tagged
 verdict_width i [] few = omega arith
 verdict_width i (t ∷ ts) few =
     cond_both (eqb t 0) (fails 18 i) (verdict_from (suc i) ts) (λ v. length (verdict_row v) ≤ 9)
@@ -38,7 +39,7 @@ text_width bs ts few small =
     simp length-append (omega (arith, rows_width bs 0 ts (omega arith) small, verdict_width 1 ts (omega arith)))
 
 pub fault_width : (number «record» byte : ℕ) → number ≤ 18 → «record» < 2 ^ 32 → byte < 2 ^ 32 → length (fault_row number «record» byte) ≤ 320
-unfolding fault_row labelled
+unfolding fault_row tagged
 fault_width number «record» byte small a b =
     simp length-append
     (omega (arith, length-decimal-le 2 number (lit< tt) (omega arith) (omega arith), length-decimal-le 10 «record» (lit< tt) (omega arith) (omega arith), length-decimal-le 10 byte (lit< tt) (omega arith) (omega arith)))

@@ -1,6 +1,7 @@
 -- The text that shows the times of a plan: a row for each line, and a verdict; or why the plan is refused.
-use Rattle.std.specs.Prelude.{ℕ, suc, ◌*◌, cond, List, [], ◌∷◌, ◌++◌, Some, None, codes, decimal, Option, ◌==◌, slice_index}
+use Rattle.std.specs.Prelude.{ℕ, suc, ◌*◌, cond, List, [], ◌∷◌, ◌++◌, codes, decimal, ◌==◌, slice_index}
 use Rattle.plan.specs.Answers.{Answer, granted, refused}
+use Rattle.text.specs.Written.{labelled}
 use Rattle.analysis.specs.Verdicts.{Verdict, passes, fails, verdict_from}
 use Rattle.report.specs.Results.{plan_times}
 
@@ -24,15 +25,7 @@ abbrev pub rows : List ℕ → ℕ → List ℕ → List ℕ
 rows bs i [] = []
 rows bs i (t ∷ ts) = row (suc i) (slice_index bs (20 * i)) t ++ rows bs (suc i) ts
 
--- a word and a number
-unfoldable pub labelled : List ℕ → ℕ → List ℕ
-labelled word n = word ++ decimal n
-
--- the verdict that names this line, if there is one
-abbrev pub naming : Option ℕ → Verdict
-naming None = passes
-naming (Some n) = fails 18 n
-
+-- the verdict
 abbrev pub verdict_row : Verdict → List ℕ
 verdict_row passes = codes "passes" ++ (feed ∷ [])
 verdict_row (fails number n) = labelled (codes "fails ") n ++ (feed ∷ [])

@@ -1,6 +1,6 @@
 -- For callers: several additions to a text as one, and the cut dropped where all fits.
 use Rattle.std.proofs.Common.{◌≡◌, ℕ, zero, suc, ◌≤◌, List, [], ◌∷◌, ◌++◌, length, take, refl, ap, ◌∙◌, append_assoc, append-nil, arith}
-use Rattle.std.proofs.lemmas.List.{length-take, take_all}
+use Rattle.std.proofs.lemmas.List.{take-append-le, take_all}
 use Rattle.text.specs.declared.buffer.Text.{Text}
 use Rattle.text.specs.Written.{room, written}
 
@@ -19,7 +19,12 @@ pub uncut : (xs : List ℕ) → length xs ≤ 320 → take room xs ≡ xs
 unfolding room
 uncut xs fits = take_all 320 xs fits
 
+-- to a full text nothing is added
+pub full : (xs ys : List ℕ) → length xs ≡ 320 → take room (xs ++ ys) ≡ xs
+unfolding room
+full xs ys whole = take-append-le 320 xs ys (omega arith) ∙ take_all 320 xs (omega arith)
+
 -- with nothing added a text stays as it is
 pub none_added : (t : Text) → take room (written t ++ []) ≡ written t
 unfolding written
-none_added t = simp append-nil (uncut (written t) (simp length-take (omega (arith, t.bounded))))
+none_added t = simp append-nil (uncut (written t) t.bounded)

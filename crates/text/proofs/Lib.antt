@@ -1,3 +1,2 @@
-mod Added
 mod HexSteps
 pub mod Cuts

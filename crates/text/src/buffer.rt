@@ -1,14 +1,15 @@
-ghost use Rattle.std.specs.Prelude.{◌≤◌};
+ghost use Rattle.std.specs.Prelude.{◌≤◌, length};
 
 mod writes;
+
+use arrayvec::ArrayVec;
 
 // How many bytes a text holds at most.
 const ROOM: usize = 320;
 
-// A text is the first `len` of its bytes.
+// The bytes of a text, in the order in which they were written.
 #[derive(Drop)]
 pub struct Text {
-    bytes: [u8; ROOM],
-    len: usize,
-    ghost bounded: { len ≤ 320 },
+    bytes: ArrayVec<u8, ROOM>,
+    ghost bounded: { length bytes.items ≤ 320 },
 }

@@ -8,7 +8,7 @@ use Rattle.report.proofs.shown.times_text.Goals as goal
 pub push_rows-requires : goal.push_rows-requires
 push_rows-requires c =
     let part = plan_granted c.args.plan.now _ c.plan_times.new.out c.in-Ok.count c.in-Ok.ensures.answered c.plan_times.ensures.after in
-    record { few = part.extent.few; whole = part.extent.whole }
+    part.extent.whole
 
 pub returns-in-Ok : goal.returns-in-Ok
 returns-in-Ok c =
