@@ -19,18 +19,18 @@ fetch_value None = 0
 fetch_value (Some c) = c.line + c.number + c.ticks
 
 -- a sum in 64 bits that depends on the order
-unfoldable pub summed : (sum x : ℕ) → ℕ
+abbrev pub summed : (sum x : ℕ) → ℕ
 summed sum x = (sum * 31 % 2 ^ 64 + x) % 2 ^ 64
 
 module _ {k : Kind} where
   -- what a turn's answers count together, and the state that it leaves
-  unfoldable pub turn_value : (line amount : ℕ) → Machine k → ℕ
+  abbrev pub turn_value : (line amount : ℕ) → Machine k → ℕ
   turn_value line amount m =
       offer_value (offered line amount m).0
       + tick_value (ticked (offered line amount m).1).0
       + fetch_value (fetched (ticked (offered line amount m).1).1).0
 
-  unfoldable pub turned : (line amount : ℕ) → Machine k → Machine k
+  abbrev pub turned : (line amount : ℕ) → Machine k → Machine k
   turned line amount m = (fetched (ticked (offered line amount m).1).1).1
 
   -- the state after n turns: turn i offers to line i modulo the count of lines + 1, where line 0 is none

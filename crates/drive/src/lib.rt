@@ -1,15 +1,18 @@
 // Many turns of a run through one entry for C, for measuring. The slice is passed as a pointer and then a length.
 #![tactic(auto)]
 
-mod calls;
 mod kinds;
 mod turns;
+mod values;
 
 ghost use Rattle.std.specs.Prelude.{◌≡◌};
 ghost use Rattle.drive.specs.Whole.{driven};
 
-use crate::kinds::{drive_deferrable, drive_polling, drive_sporadic};
+use crate::kinds::drive_for;
 use report::whole::plan_letter;
+use server::deferrable::Deferrable;
+use server::polling::Polling;
+use server::sporadic::Sporadic;
 
 // Admits a plan, for the kind of its first server, and runs it for so many turns. At most so many requests wait, 64 where more
 // are asked for, and up to 64 completions. Turn i offers the amount to line i modulo the count of lines + 1 (line 0 is none),
@@ -19,8 +22,8 @@ pub extern "C" fn drive(plan: &[u8], ticks: u32, amount: u32, places: u32) -> u6
     ensures { result ≡ driven plan.now ticks amount places }
 {
     match plan_letter(plan) {
-        b'D' => drive_deferrable(plan, ticks, amount, places),
-        b'S' => drive_sporadic(plan, ticks, amount, places),
-        _ => drive_polling(plan, ticks, amount, places),
+        b'D' => drive_for::<Deferrable>(plan, ticks, amount, places),
+        b'S' => drive_for::<Sporadic>(plan, ticks, amount, places),
+        _ => drive_for::<Polling>(plan, ticks, amount, places),
     }
 }
