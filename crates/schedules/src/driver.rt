@@ -1,4 +1,6 @@
 // Trying a list of calls on a run, and comparing each answer.
+ghost use Rattle.run.specs.Sessions.{SessionFitsInMemory};
+
 use crate::calls::{Answer, Call, Step};
 use crate::plans::admitted;
 use plan::line::Line;
@@ -6,57 +8,66 @@ use queue::Queue;
 use run::items::{Completion, Request};
 use run::refusal::RunRefusal;
 use run::report::LineReport;
-use run::run::Run;
+use run::session::Session;
 use server::kind::Server;
 use server::sporadic::Sporadic;
 use std::process::Abort;
 
 // What a call answers, or why it is refused.
 fn granted<S: Server + Copy>(
-    run: &mut Run<S>,
-    requests: &mut Queue<'_, Request>,
-    completions: &mut Queue<'_, Completion>,
+    session: &mut Session<'_, S>,
     call: Call,
 ) -> Result<Answer, RunRefusal> {
     let answer = match call {
-        Call::Offer(line, amount) => {
-            Answer::Number(run.offer(requests, completions, line, amount)?)
-        }
+        Call::Offer(line, amount) => Answer::Number(session.offer(line, amount)?),
         Call::Tick => {
-            let ticked = run.tick(requests, completions)?;
+            let ticked = session.tick()?;
             Answer::Ticked(ticked.number, ticked.line, ticked.ready)
         }
         Call::Finish(line) => {
-            run.finish(requests, completions, line)?;
+            session.finish(line)?;
             Answer::Finished
         }
-        Call::Fetch => match run.fetch(requests, completions) {
+        Call::Fetch => match session.fetch() {
             Some(c) => Answer::Completed(c.line, c.number, c.ticks, c.early),
             None => Answer::NoneWaits,
         },
-        Call::Ask(line) => match run.ask(requests, completions, line)? {
+        Call::Ask(line) => match session.ask(line)? {
             LineReport::Task { unfinished, next } => Answer::TaskHas(unfinished, next),
             LineReport::Server { held, waits, needs } => Answer::ServerHas(held, waits, needs),
         },
-        Call::Put(request) if requests.push(request) => Answer::Number(request.number),
+        Call::Put(request) if session.requests.push(request) => Answer::Number(request.number),
         Call::Put(_) => return Err(RunRefusal::Requests),
     };
     Ok(answer)
 }
 
+// A run of these lines, just started, with this memory for its queues.
+pub(crate) fn started<'a, S: Server + Copy>(
+    rt: &impl Abort,
+    lines: &[Line],
+    waiting: &'a mut [Request],
+    completed: &'a mut [Completion],
+) -> Session<'a, S>
+    requires { SessionFitsInMemory S.row S.Server }
+{
+    Session::start(
+        admitted(rt, lines),
+        Queue::new(waiting),
+        Queue::new(completed),
+    )
+}
+
 // The run answers the calls so. A failure names the step, counted from 0.
 pub(crate) fn follows<S: Server + Copy>(
     rt: &impl Abort,
-    run: &mut Run<S>,
-    requests: &mut Queue<'_, Request>,
-    completions: &mut Queue<'_, Completion>,
+    session: &mut Session<'_, S>,
     steps: &[Step],
 ) {
     for (i, (call, expected)) in steps.iter().enumerate() {
-        let answer = match granted(run, requests, completions, *call) {
-            Ok(answer) => answer,
-            Err(refusal) => Answer::Refused(refusal.number()),
-        };
+        let answer = granted(session, *call).unwrap_or_else(|refusal| Answer::Refused(
+            refusal.number(),
+        ));
         assert_eq!(rt; (i, answer), (i, *expected));
     }
 }
@@ -69,8 +80,6 @@ pub(crate) fn answers(
     completed: &mut [Completion],
     steps: &[Step],
 ) {
-    let mut requests = Queue::new(waiting);
-    let mut completions = Queue::new(completed);
-    let mut run = Run::<Sporadic>::start(admitted(rt, lines), &mut requests, &mut completions);
-    follows(rt, &mut run, &mut requests, &mut completions, steps);
+    let mut session = started::<Sporadic>(rt, lines, waiting, completed);
+    follows(rt, &mut session, steps);
 }

@@ -1,12 +1,12 @@
 // The schedule of the sample plan with each kind of server: 2 is offered before tick 7, and 2 before tick 10.
+ghost use Rattle.run.specs.Sessions.{SessionFitsInMemory};
+
 use crate::calls::Answer::*;
 use crate::calls::Call::*;
 use crate::calls::Step;
-use crate::driver::{answers, follows};
-use crate::plans::{admitted, sample};
-use queue::Queue;
-use run::items::{Completion, NO_COMPLETION, NO_REQUEST, Request};
-use run::run::Run;
+use crate::driver::{answers, follows, started};
+use crate::plans::sample;
+use run::items::{NO_COMPLETION, NO_REQUEST};
 use server::deferrable::Deferrable;
 use server::kind::Server;
 use server::polling::Polling;
@@ -27,31 +27,22 @@ const BEFORE: [Step; 11] = [
     (Offer(2, 2), Number(1)),
 ];
 
-// After those the run answers so.
-fn schedule_is<S: Server + Copy>(
-    rt: &impl Abort,
-    run: &mut Run<S>,
-    requests: &mut Queue<'_, Request>,
-    completions: &mut Queue<'_, Completion>,
-    steps: &[Step],
-) {
-    follows(rt, run, requests, completions, &BEFORE);
-    follows(rt, run, requests, completions, steps);
+// After those, a run of the sample plan with a server of this kind answers so.
+fn schedule_is<S: Server + Copy>(rt: &impl Abort, letter: u8, steps: &[Step])
+    requires { SessionFitsInMemory S.row S.Server }
+{
+    let mut waiting = [NO_REQUEST; 2];
+    let mut completed = [NO_COMPLETION; 4];
+    let mut session = started::<S>(rt, &sample(letter), &mut waiting, &mut completed);
+    follows(rt, &mut session, &BEFORE);
+    follows(rt, &mut session, steps);
 }
 
 #[test]
 fn a_polling_server_waits_for_its_period(rt: HostRuntime) {
-    let mut waiting = [NO_REQUEST; 2];
-    let mut completed = [NO_COMPLETION; 4];
-    let mut requests = Queue::new(&mut waiting);
-    let mut completions = Queue::new(&mut completed);
-    let plan = admitted(&rt, &sample(b'P'));
-    let mut run = Run::<Polling>::start(plan, &mut requests, &mut completions);
-    schedule_is(
+    schedule_is::<Polling>(
         &rt,
-        &mut run,
-        &mut requests,
-        &mut completions,
+        b'P',
         &[
             (Tick, Ticked(7, 0, 0)),
             (Tick, Ticked(8, 1, 0b011)),
@@ -69,17 +60,9 @@ fn a_polling_server_waits_for_its_period(rt: HostRuntime) {
 
 #[test]
 fn a_deferrable_server_is_filled_at_each_period(rt: HostRuntime) {
-    let mut waiting = [NO_REQUEST; 2];
-    let mut completed = [NO_COMPLETION; 4];
-    let mut requests = Queue::new(&mut waiting);
-    let mut completions = Queue::new(&mut completed);
-    let plan = admitted(&rt, &sample(b'D'));
-    let mut run = Run::<Deferrable>::start(plan, &mut requests, &mut completions);
-    schedule_is(
+    schedule_is::<Deferrable>(
         &rt,
-        &mut run,
-        &mut requests,
-        &mut completions,
+        b'D',
         &[
             (Tick, Ticked(7, 2, 0b010)),
             (Tick, Ticked(8, 1, 0b011)),

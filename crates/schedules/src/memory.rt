@@ -1,31 +1,40 @@
 // How much of the lent memory the queues use.
+ghost use Rattle.std.specs.Prelude.{ℕ, ◌<◌};
+
 use crate::calls::Answer::*;
 use crate::calls::Call::*;
-use crate::calls::Step;
+use crate::calls::{Answer, Call, Step};
 use crate::driver::answers;
 use crate::plans::{server, task};
 use run::items::{NO_COMPLETION, NO_REQUEST};
+use std::array;
 
-// Of 65 requests the first so many are taken.
-fn offers(places: u32) -> [Step; 65] {
-    let mut steps = [(Offer(1, 1), Refused(14)); 65];
-    for i in 0..65 {
-        if i < places {
-            steps[i as usize] = (Offer(1, 1), Number(i + 1));
-        }
-    }
-    steps
+// A call 65 times: the first so many are granted, each answered by its place, and the others refused.
+fn first_granted<F: Fn(u32) -> Answer>(
+    places: usize,
+    call: Call,
+    granted: F,
+    refused: Answer,
+) -> [Step; 65]
+    requires { (i : ℕ) → i < 65 → F.pre granted i }
+{
+    array::from_fn(|i| {
+        let answer = if i < places {
+            granted(i as u32)
+        } else {
+            refused
+        };
+        (call, answer)
+    })
 }
 
-// Of 65 ticks, each of which completes a job, the first so many are granted.
-fn ticks(places: u32) -> [Step; 65] {
-    let mut steps = [(Tick, Refused(15)); 65];
-    for i in 0..65 {
-        if i < places {
-            steps[i as usize] = (Tick, Ticked(i, 1, 1));
-        }
-    }
-    steps
+fn offers(places: usize) -> [Step; 65] {
+    first_granted(places, Offer(1, 1), |i| Number(i + 1), Refused(14))
+}
+
+// Each tick completes a job.
+fn ticks(places: usize) -> [Step; 65] {
+    first_granted(places, Tick, |i| Ticked(i, 1, 1), Refused(15))
 }
 
 #[test]
