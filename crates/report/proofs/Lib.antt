@@ -1,4 +1,4 @@
-mod Admitting
+mod Records
 pub mod Choosing
 pub mod Extents
 pub mod Outcomes

@@ -1,5 +1,5 @@
 -- Reading a plan record by record.
-use Rattle.std.proofs.Common.{◌≡◌, ℕ, zero, suc, ◌+◌, ◌-◌, ◌/◌, ◌%◌, ◌<◌, List, length, refl, ap, ◌∙◌, zero-add, add-one, arith}
+use Rattle.std.proofs.Common.{◌≡◌, ℕ, zero, suc, ◌+◌, ◌-◌, ◌/◌, ◌%◌, ◌<◌, List, length, refl, sym, ap, ◌∙◌, zero-add, add-one, arith}
 use Rattle.std.proofs.lemmas.Bool.{cond-true, cond-false, eq-eqb, ne_eqb}
 use Rattle.server.specs.Kind.{Kind}
 use Rattle.plan.specs.Answers.{Answer, granted, refused}
@@ -18,10 +18,11 @@ module _ (ls : List Line) where
 
 module _ (k : Kind) (bs : List ℕ) where
   -- a record that adds a line
-  pub lines_more : (i : ℕ) (ls : List Line) (n : ℕ) → lines_to k bs i ≡ granted ls → numbered ls (added k ls (record_at bs i)) ≡ granted n
-      → lines_to k bs (i + 1) ≡ granted (grown ls (added k ls (record_at bs i)))
-  lines_more i ls n before is =
-      ap (lines_to k bs) (add-one i) ∙ ap (λ a. further k a (record_at bs i)) before ∙ extended_granted ls (added k ls (record_at bs i)) n is
+  pub lines_more : (i : ℕ) (ls : List Line) (bytes : List ℕ) (n : ℕ) → bytes ≡ record_at bs i → lines_to k bs i ≡ granted ls → numbered ls (added k ls bytes) ≡ granted n
+      → lines_to k bs (i + 1) ≡ granted (grown ls (added k ls bytes))
+  lines_more i ls bytes n here before is =
+      ap (lines_to k bs) (add-one i) ∙ ap (λ a. further k a (record_at bs i)) before ∙ ap (λ xs. extended ls (added k ls xs)) (sym here)
+      ∙ extended_granted ls (added k ls bytes) n is
 
   stays : (i d number «record» byte : ℕ) → lines_to k bs i ≡ refused number «record» byte → lines_to k bs (d + i) ≡ refused number «record» byte
   stays i zero number «record» byte is = ap (lines_to k bs) (zero-add i) ∙ is
@@ -32,11 +33,12 @@ module _ (k : Kind) (bs : List ℕ) where
       step d i = omega arith
 
   -- a record that is refused: so is the plan
-  pub lines_stop : (i m : ℕ) (ls : List Line) (number «record» byte : ℕ) → i < m → lines_to k bs i ≡ granted ls
-      → numbered ls (added k ls (record_at bs i)) ≡ refused number «record» byte → lines_to k bs m ≡ refused number «record» byte
-  lines_stop i m ls number «record» byte below before is =
-      let here : lines_to k bs (suc i) ≡ refused number «record» byte = ap (λ a. further k a (record_at bs i)) before ∙ extended_refused ls (added k ls (record_at bs i)) number «record» byte is in
-      ap (lines_to k bs) (reach i m below) ∙ stays (suc i) (m - suc i) number «record» byte here
+  pub lines_stop : (i m : ℕ) (ls : List Line) (bytes : List ℕ) (number «record» byte : ℕ) → i < m → bytes ≡ record_at bs i → lines_to k bs i ≡ granted ls
+      → numbered ls (added k ls bytes) ≡ refused number «record» byte → lines_to k bs m ≡ refused number «record» byte
+  lines_stop i m ls bytes number «record» byte below here before is =
+      let this : lines_to k bs (suc i) ≡ refused number «record» byte =
+      ap (λ a. further k a (record_at bs i)) before ∙ ap (λ xs. extended ls (added k ls xs)) (sym here) ∙ extended_refused ls (added k ls bytes) number «record» byte is in
+      ap (lines_to k bs) (reach i m below) ∙ stays (suc i) (m - suc i) number «record» byte this
     where
       reach : (i m : ℕ) → i < m → m ≡ m - suc i + suc i
       reach i m below = omega arith

@@ -1,5 +1,5 @@
 -- Whole plans: a row of records, without a header.
-use Rattle.std.specs.Prelude.{ℕ, zero, suc, ◌+◌, ◌*◌, ◌/◌, ◌%◌, Bool, true, false, cond, List, [], ◌∷◌, ◌++◌, length, ◌==◌, slice_index}
+use Rattle.std.specs.Prelude.{ℕ, zero, suc, ◌+◌, ◌*◌, ◌/◌, ◌%◌, Bool, true, false, cond, List, [], ◌∷◌, ◌++◌, length, map, ◌==◌, slice_index}
 use Rattle.std.specs.List.{between}
 use Rattle.server.specs.Kind.{Kind}
 use Rattle.server.specs.DeferrableKind.{deferrable}
@@ -32,6 +32,10 @@ lines_to k bs (suc n) = further k (lines_to k bs n) (record_at bs n)
 -- the lines of a plan for one kind: its length first, then record by record
 unfoldable pub plan_for : Kind → List ℕ → Answer (List Line)
 plan_for k bs = cond (length bs % 20 == 0) (lines_to k bs (length bs / 20)) (refused 1 0 0)
+
+-- the letters of records
+abbrev pub letters : List (List ℕ) → List ℕ
+letters = map (λ «record». slice_index «record» 0)
 
 -- the first letter of a server among the n records from place i on; P where there is none
 abbrev pub server_from : List ℕ → ℕ → ℕ → ℕ

@@ -1,16 +1,19 @@
 // Reading a whole plan.
-ghost use Rattle.std.specs.Prelude.{◌≡◌, length, IfSome, IfOk};
+ghost use Rattle.std.specs.Prelude.{◌≡◌, find, length, IfSome, IfOk};
 ghost use Rattle.std.specs.Option.{option_map};
 ghost use Rattle.analysis.specs.Admission.{plan_lines};
 ghost use Rattle.analysis.specs.Drafts.{lines};
 ghost use Rattle.analysis.specs.Growth.{Served};
 ghost use Rattle.plan.specs.Answers.{answer};
-ghost use Rattle.report.specs.Plans.{plan_for, plan_letter};
+ghost use Rattle.plan.specs.Kinds.{kind_letter};
+ghost use Rattle.plan.specs.Records.{is_server};
+ghost use Rattle.report.specs.Plans.{letters, plan_for, plan_letter};
 ghost use Rattle.report.specs.Results.{drafted, times_of, plan_times, counted, filled, admitted_lines};
 
 use analysis::admitted::AdmittedPlan;
 use analysis::draft::Draft;
 use plan::fault::{Fault, Refusal};
+use plan::kind::ServerKind;
 use plan::line::is_server;
 use server::deferrable::Deferrable;
 use server::kind::Server;
@@ -22,16 +25,13 @@ pub fn read_plan<S: Server>(plan: &[u8]) -> Result<Draft<S>, Fault>
     ensures answered { drafted result ≡ plan_for S.Server.kind plan.now }
     ensures served { IfOk result (λ d. Served S.Server.kind (lines d)) }
 {
-    if plan.len() % 20 != 0 {
-        return Err(Fault {
-            refusal: Refusal::Length,
-            record: 0,
-            byte: 0,
-        });
+    let (records, rest) = plan.as_chunks::<20>();
+    if !rest.is_empty() {
+        return Err(Refusal::Length.at(0));
     }
     let mut draft = Draft::new();
-    for i in 0..plan.len() / 20 {
-        draft.add(&plan[20 * i..20 * i + 20])?;
+    for record in records {
+        draft.add(record)?;
     }
     Ok(draft)
 }
@@ -41,27 +41,34 @@ pub fn admitted_plan<S: Server>(bytes: &[u8]) -> Option<AdmittedPlan<S>>
     ensures lines { option_map plan_lines result ≡ admitted_lines S.Server.kind bytes.now }
     ensures served { IfSome result (λ p. Served S.Server.kind (plan_lines p)) }
 {
-    let Ok(mut draft) = read_plan::<S>(bytes) else {
-        return None;
-    };
+    let mut draft = read_plan::<S>(bytes).ok()?;
     let mut plan = AdmittedPlan::new();
-    match plan.admit(&mut draft) {
-        Ok(()) => Some(plan),
-        Err(_) => None,
-    }
+    plan.admit(&mut draft).ok()?;
+    Some(plan)
+}
+
+// The first letter of a server among these records.
+fn first_server(records: &[[u8; 20]]) -> Option<u8>
+    ensures { result ≡ find is_server (letters records.now) }
+{
+    records
+        .iter()
+        .map(|record| record[0])
+        .find(|letter| is_server(*letter))
 }
 
 // The first letter of a server in a plan, or P.
 pub fn plan_letter(plan: &[u8]) -> u8
     ensures { result ≡ plan_letter plan.now }
 {
-    for i in 0..plan.len() / 20 {
-        let letter = plan[20 * i];
-        if is_server(letter) {
-            return letter;
-        }
-    }
-    b'P'
+    first_server(plan.as_chunks::<20>().0).unwrap_or(b'P')
+}
+
+// The kind of the first server in a plan, or polling.
+pub fn plan_kind(plan: &[u8]) -> ServerKind
+    ensures { kind_letter result ≡ plan_letter plan.now }
+{
+    ServerKind::try_from(plan_letter(plan)).unwrap_or(ServerKind::Polling)
 }
 
 // The times of a whole plan for one kind.
@@ -79,9 +86,9 @@ pub fn plan_times(plan: &[u8], out: &mut [u32]) -> Result<u32, Fault>
     ensures answered { answer result ≡ counted (plan_times plan.now) (length out.old) }
     ensures after { out.new ≡ filled (plan_times plan.now) out.old }
 {
-    match plan_letter(plan) {
-        b'D' => times_for::<Deferrable>(plan, out),
-        b'S' => times_for::<Sporadic>(plan, out),
-        _ => times_for::<Polling>(plan, out),
+    match plan_kind(plan) {
+        ServerKind::Polling => times_for::<Polling>(plan, out),
+        ServerKind::Deferrable => times_for::<Deferrable>(plan, out),
+        ServerKind::Sporadic => times_for::<Sporadic>(plan, out),
     }
 }
