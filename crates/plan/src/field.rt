@@ -26,7 +26,7 @@ impl Fields {
         ensures { result ≡ fields_of bytes.now }
     {
         let [head, work, period, deadline, first] = bytes.as_chunks::<4>().0 else {
-            unreachable()
+            unreachable!()
         };
         let [letter, z1, z2, z3] = *head;
         Fields {

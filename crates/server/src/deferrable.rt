@@ -8,9 +8,10 @@ ghost use Rattle.server.specs.DeferrableLaws.{deferrable_lawful};
 use crate::budget::{after_tick, per_period};
 use crate::kind::Server;
 use crate::terms::ServerTerms;
+use plan::kind::ServerKind;
 
 // A server that keeps what it holds while nobody waits for it, until its next period starts.
-#[derive(Clone, Copy)]
+#[derive(Clone, Copy, Debug, PartialEq, Eq)]
 pub struct Deferrable {
     terms: ServerTerms,
     held: u32,
@@ -28,7 +29,7 @@ impl Server for Deferrable {
     ghost lawful = { deferrable_lawful };
 
     fn serves(letter: u8) -> bool {
-        letter == b'D'
+        letter == ServerKind::Deferrable.letter()
     }
 
     fn make(given: ServerTerms) -> Deferrable {

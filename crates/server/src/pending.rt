@@ -6,7 +6,8 @@ ghost use Rattle.std.specs.Prelude.{◌≤◌};
 use crate::entry::Entry;
 
 // Up to 16 entries, oldest first: those below the count are pending.
-#[derive(Clone, Copy)]
+// An array and a count: a sporadic server is Copy, and a list of the library's is not.
+#[derive(Clone, Copy, Debug)]
 pub(crate) struct Pending {
     entries: [Entry; 16],
     count: usize,

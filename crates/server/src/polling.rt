@@ -8,9 +8,11 @@ ghost use Rattle.server.specs.PollingLaws.{polling_lawful};
 use crate::budget::{after_tick, per_period};
 use crate::kind::Server;
 use crate::terms::ServerTerms;
+use plan::kind::ServerKind;
 
 // A server that loses what it holds as soon as nobody waits for it.
-#[derive(Clone, Copy)]
+// It has the fields of a Deferrable and other rules: a type that both hold would have no more than `end` to share.
+#[derive(Clone, Copy, Debug, PartialEq, Eq)]
 pub struct Polling {
     terms: ServerTerms,
     held: u32,
@@ -28,7 +30,7 @@ impl Server for Polling {
     ghost lawful = { polling_lawful };
 
     fn serves(letter: u8) -> bool {
-        letter == b'P'
+        letter == ServerKind::Polling.letter()
     }
 
     fn make(given: ServerTerms) -> Polling {

@@ -12,7 +12,7 @@ impl Pending {
         ensures { pending_of result ≡ [] }
     {
         Pending {
-            entries: [Entry { due: 0, amount: 0 }; 16],
+            entries: [Entry::default(); 16],
             count: 0,
         }
     }
@@ -35,17 +35,11 @@ impl Pending {
         ensures gone { result ≡ going (pending_of self.old) tick }
         ensures left { pending_of self.new ≡ staying (pending_of self.old) tick }
     {
-        if self.count == 0 {
-            return None;
-        }
-        let oldest = self.entries[0];
-        if oldest.due != tick as u64 {
-            return None;
-        }
+        let oldest = *self.entries[..self.count]
+            .first()
+            .filter(|oldest| oldest.due == tick as u64)?;
+        self.entries.copy_within(1..self.count, 0);
         self.count -= 1;
-        for i in 0..self.count {
-            self.entries[i] = self.entries[i + 1];
-        }
         Some(oldest.amount)
     }
 }

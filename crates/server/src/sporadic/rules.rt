@@ -11,6 +11,7 @@ use crate::kind::Server;
 use crate::pending::Pending;
 use crate::sporadic::Sporadic;
 use crate::terms::ServerTerms;
+use plan::kind::ServerKind;
 
 impl Server for Sporadic {
     ghost kind = { sporadic };
@@ -24,7 +25,7 @@ impl Server for Sporadic {
     ghost lawful = { sporadic_lawful };
 
     fn serves(letter: u8) -> bool {
-        letter == b'S'
+        letter == ServerKind::Sporadic.letter()
     }
 
     fn make(given: ServerTerms) -> Sporadic {
