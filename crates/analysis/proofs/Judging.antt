@@ -1,12 +1,12 @@
 -- A verdict names the first line that has no response time.
-use Rattle.std.proofs.Common.{◌≡◌, ℕ, zero, suc, ◌+◌, ◌-◌, ◌<◌, eqb, ◌⊎◌, List, [], ◌∷◌, length, get_or, take, sym, refl, ap, ◌∙◌, subst, inl, inr, ⊎_elim, arith}
-use Rattle.std.proofs.lemmas.Bool.{cases_eq, cond-true, cond-false, eq-eqb, ne_eqb}
+use Rattle.std.proofs.Common.{◌≡◌, true, ℕ, zero, suc, ◌+◌, ◌-◌, ◌<◌, eqb, ◌⊎◌, List, [], ◌∷◌, length, get_or, take, sym, refl, ap, ◌∙◌, subst, inl, inr, ⊎_elim, arith}
+use Rattle.std.proofs.lemmas.Bool.{cases_eq, cond-true, cond-false, eq-eqb, ne_eqb, false≢true}
 use Rattle.server.specs.Kind.{Kind}
 use Rattle.plan.specs.declared.line.Line.{Line}
 use Rattle.plan.specs.Records.{blank}
 use Rattle.analysis.specs.Response.{time_of}
 use Rattle.analysis.specs.Times.{times}
-use Rattle.analysis.specs.Verdicts.{passes, fails, verdict_from, verdict, Passes, Judges}
+use Rattle.analysis.specs.Verdicts.{Verdict, passes, fails, accepts, verdict_from, verdict, Passes, AllPass, Judges}
 use Rattle.analysis.proofs.Counting.{time_zero, time_solves}
 use Rattle.analysis.proofs.Sweeps.{times_length, times_at}
 
@@ -94,3 +94,11 @@ module _ (k : Kind) (ls : List Line) where
     where
       place : (i : ℕ) → i ≡ 1 + i - 1
       place i = omega arith
+
+  -- all lines of a plan pass on which the verdict is so
+  pub accepted_passes : accepts (verdict k ls) ≡ true → AllPass k ls
+  accepted_passes accepted = judged_passes (verdict k ls) accepted verdict_judges
+    where
+      judged_passes : (v : Verdict) → accepts v ≡ true → Judges k ls v → AllPass k ls
+      judged_passes passes accepted judges = judges
+      judged_passes (fails number n) accepted judges = absurd (false≢true accepted)

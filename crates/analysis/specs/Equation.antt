@@ -1,10 +1,10 @@
 -- The response-time equation: what a line and the lines above it ask of the processor in a window of ticks.
 use Rattle.std.specs.Prelude.{ℕ, ◌+◌, ◌*◌, List, sum_by}
-use Rattle.server.specs.Kind.{Kind, Terms}
+use Rattle.server.specs.Kind.{Kind}
 use Rattle.server.specs.Rounding.{ceil_div}
+pub use Rattle.server.specs.View.{terms_on}
 use Rattle.plan.specs.declared.line.Line.{Line}
 use Rattle.plan.specs.declared.line.Line.TheVariants.{Task, Server}
-use Rattle.plan.specs.declared.line.ServerLine.{ServerLine}
 
 -- a line's own work: the work of a task, the budget of a server
 abbrev pub own : Line → ℕ
@@ -15,10 +15,6 @@ own (Server s) = s.budget
 abbrev pub limit : Line → ℕ
 limit (Task t) = t.deadline
 limit (Server s) = s.period
-
--- the terms that a server line gives
-abbrev pub terms_on : ServerLine → Terms
-terms_on s = record { letter = s.letter; budget = s.budget; period = s.period }
 
 -- the most that a line takes from the lines below it in w ticks
 abbrev pub share : Kind → ℕ → Line → ℕ

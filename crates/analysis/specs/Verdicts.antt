@@ -1,5 +1,5 @@
 -- Whether a plan passes.
-use Rattle.std.specs.Prelude.{◌≡◌, ℕ, suc, ◌-◌, ◌<◌, ◌≤◌, cond, List, [], ◌∷◌, length, take, Ok, Err, Result, ◌==◌, slice_index_or}
+use Rattle.std.specs.Prelude.{◌≡◌, ℕ, suc, ◌-◌, ◌<◌, ◌≤◌, Bool, true, false, cond, List, [], ◌∷◌, length, take, Ok, Err, Result, ◌==◌, slice_index_or}
 use Rattle.server.specs.Kind.{Kind}
 use Rattle.plan.specs.Answers.{number_of}
 use Rattle.plan.specs.Records.{blank}
@@ -12,6 +12,11 @@ use Rattle.analysis.specs.Times.{times}
 pub data Verdict : Type 0 where
   passes : Verdict
   fails : (number line : ℕ) → Verdict
+
+-- whether it is that all lines pass
+abbrev pub accepts : Verdict → Bool
+accepts passes = true
+accepts (fails number line) = false
 
 -- a verdict as it is answered
 abbrev pub judged : Result Unit LineFault → Verdict

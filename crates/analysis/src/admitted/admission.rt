@@ -1,11 +1,11 @@
 // Filling an admitted plan, and taking its lines back for changes.
-ghost use Rattle.std.specs.Prelude.{◌≡◌, ◌≤◌, [], length, IfSome};
+ghost use Rattle.std.specs.Prelude.{◌≡◌, ◌≤◌, true, [], length, IfSome};
 ghost use Rattle.std.specs.List.{All, slice_get};
 ghost use Rattle.plan.specs.Records.{Fit};
 ghost use Rattle.analysis.specs.Admission.{plan_lines, left_over, in_place};
 ghost use Rattle.analysis.specs.Drafts.{lines};
 ghost use Rattle.analysis.specs.Growth.{Served};
-ghost use Rattle.analysis.specs.Verdicts.{verdict, judged, AllPass};
+ghost use Rattle.analysis.specs.Verdicts.{verdict, accepts, judged, AllPass};
 
 use crate::admitted::AdmittedPlan;
 use crate::draft::Draft;
@@ -31,11 +31,13 @@ impl<S: Server> AdmittedPlan<S> {
         self.plan.len()
     }
 
-    // Its lines: at most 20, each within its bounds.
+    // Its lines: at most 20, each within its bounds and of a letter that the kind serves, and all pass.
     pub fn lines(&self) -> &[Line]
         ensures value { result.now ≡ plan_lines self.now }
         ensures few { length result.now ≤ 20 }
         ensures fit { All Fit result.now }
+        ensures served { Served S.Server.kind result.now }
+        ensures passing { AllPass S.Server.kind result.now }
     {
         self.plan.lines()
     }
@@ -57,6 +59,7 @@ impl<S: Server> AdmittedPlan<S> {
     }
 
     fn take_over(&mut self, draft: &mut Draft<S>)
+        requires { accepts (verdict S.Server.kind (lines draft.old)) ≡ true }
         ensures rest { lines draft.new ≡ [] }
         ensures plan { plan_lines self.new ≡ lines draft.old }
     {
@@ -69,8 +72,8 @@ impl<S: Server> AdmittedPlan<S> {
         ensures answered { judged result ≡ verdict S.Server.kind (lines draft.old) }
         ensures draft_after { lines draft.new ≡ left_over (judged result) (lines draft.old) }
         ensures plan_after { plan_lines self.new ≡ in_place (judged result) (lines draft.old) (plan_lines self.old) }
-        ensures passing { AllPass S.Server.kind (plan_lines self.old) → AllPass S.Server.kind (plan_lines self.new) }
-        ensures served { Served S.Server.kind (lines draft.old) → Served S.Server.kind (plan_lines self.old) → Served S.Server.kind (plan_lines self.new) }
+        ensures passing { AllPass S.Server.kind (plan_lines self.new) }
+        ensures served { Served S.Server.kind (plan_lines self.new) }
     {
         draft.check()?;
         self.take_over(draft);

@@ -53,7 +53,7 @@ impl<S: Server> Draft<S> {
     pub fn add(&mut self, bytes: &[u8]) -> Result<u32, Fault>
         ensures answered { answer result ≡ numbered (lines self.old) (added S.Server.kind (lines self.old) bytes.now) }
         ensures after { lines self.new ≡ grown (lines self.old) (added S.Server.kind (lines self.old) bytes.now) }
-        ensures served { Served S.Server.kind (lines self.old) → Served S.Server.kind (lines self.new) }
+        ensures served { Served S.Server.kind (lines self.new) }
     {
         let line = self.accepted(bytes)?;
         self.lines.push(line);

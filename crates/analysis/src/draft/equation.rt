@@ -39,11 +39,7 @@ fn share_of<S: Server>(line: &Line, w: u32) -> u64
     match line {
         Line::Task(task) => ceil_div(w, task.period) as u64 * task.work as u64,
         Line::Server(server) => {
-            let terms = ServerTerms {
-                letter: server.letter,
-                budget: server.budget,
-                period: server.period,
-            };
+            let terms = ServerTerms::try_from(*server).unwrap();
             S::ceiling(&terms, w) as u64
         }
     }

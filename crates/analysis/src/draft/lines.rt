@@ -3,6 +3,7 @@ ghost use Rattle.std.specs.Prelude.{◌≡◌, ◌≤◌, [], length, IfSome};
 ghost use Rattle.std.specs.List.{All, slice_get};
 ghost use Rattle.plan.specs.Records.{Fit};
 ghost use Rattle.analysis.specs.Drafts.{lines};
+ghost use Rattle.analysis.specs.Growth.{Served};
 
 use crate::draft::Draft;
 use arrayvec::ArrayVec;
@@ -28,11 +29,12 @@ impl<S: Server> Draft<S> {
         self.lines.len()
     }
 
-    // Its lines: at most 20, each within its bounds.
+    // Its lines: at most 20, each within its bounds, and of a letter that the kind serves.
     pub fn lines(&self) -> &[Line]
         ensures value { result.now ≡ lines self.now }
         ensures few { length result.now ≤ 20 }
         ensures fit { All Fit result.now }
+        ensures served { Served S.Server.kind result.now }
     {
         self.lines.as_slice()
     }
