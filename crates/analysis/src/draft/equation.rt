@@ -1,5 +1,6 @@
 // The response-time equation, and its least solution.
-ghost use Rattle.std.specs.Prelude.{◌≡◌, ℕ, ◌^◌, ◌<◌, ◌≤◌, length, take, slice_index_or};
+ghost use Rattle.std.specs.Prelude.{◌≡◌, ◌<◌, ◌≤◌, length, take, slice_index_or, sum_by};
+ghost use Rattle.std.specs.List.{All};
 ghost use Rattle.plan.specs.Records.{Fit, blank};
 ghost use Rattle.analysis.specs.Drafts.{lines};
 ghost use Rattle.analysis.specs.Equation.{own, limit, share, demand};
@@ -30,33 +31,36 @@ fn limit_of(line: &Line) -> u32
 }
 
 // The most that a line takes from the lines below it in w ticks.
-fn share_of<S: Server>(line: &Line, w: u32) -> u64
+fn share_of<S: Server>(line: &Line, w: u32) -> u32
     requires fit { Fit line.now }
     requires window { w ≤ 1000000 }
     ensures value { result ≡ share S.Server.kind w line.now }
-    ensures bound { result ≤ 2 ^ 52 }
+    ensures small { result ≤ 4000000 }
 {
     match line {
-        Line::Task(task) => ceil_div(w, task.period) as u64 * task.work as u64,
-        Line::Server(server) => {
-            let terms = ServerTerms::try_from(*server).unwrap();
-            S::ceiling(&terms, w) as u64
-        }
+        Line::Task(task) => ceil_div(w, task.period) * task.work,
+        Line::Server(server) => S::ceiling(&ServerTerms::try_from(*server).unwrap(), w),
     }
+}
+
+// The shares of all these lines in w ticks.
+fn shares<S: Server>(lines: &[Line], w: u32) -> u32
+    requires fit { All Fit lines.now }
+    requires few { length lines.now ≤ 20 }
+    requires window { w ≤ 1000000 }
+    ensures { result ≡ sum_by (share S.Server.kind w) lines.now }
+{
+    lines.iter().map(|line| share_of::<S>(line, w)).sum()
 }
 
 impl<S: Server> Draft<S> {
     // Own work of the line at place i, counted from 0, and the shares of all lines above it, in w ticks.
-    fn demand(&self, i: usize, w: u32) -> u64
+    fn demand(&self, i: usize, w: u32) -> u32
         requires place { i < length (lines self.now) }
         requires window { w ≤ 1000000 }
         ensures { result ≡ demand S.Server.kind (take i (lines self.now)) (slice_index_or (lines self.now) i blank) w }
     {
-        let mut sum = own_work(&self.lines[i]) as u64;
-        for above in &self.lines[..i] {
-            sum += share_of::<S>(above, w);
-        }
-        sum
+        own_work(&self.lines[i]) + shares::<S>(&self.lines[..i], w)
     }
 
     // The least solution of a line's equation, or none within its limit. Each turn goes on with the demand of the
@@ -66,12 +70,12 @@ impl<S: Server> Draft<S> {
         ensures { Response S.Server.kind (take i (lines self.now)) (slice_index_or (lines self.now) i blank) result }
     {
         let line = &self.lines[i];
-        let limit = limit_of(line) as u64;
-        let mut w = own_work(line) as u64;
+        let limit = limit_of(line);
+        let mut w = own_work(line);
         while w <= limit {
-            let next = self.demand(i, w as u32);
+            let next = self.demand(i, w);
             if next <= w {
-                return Some(w as u32);
+                return Some(w);
             }
             w = next;
         }

@@ -1,8 +1,9 @@
-use Rattle.std.proofs.Common.{arith, rules}
-use Rattle.std.proofs.lemmas.Nat.{mul-le}
+use Rattle.std.proofs.Common.{rules}
+use Rattle.analysis.proofs.Monotone.{task_share_small}
 use Rattle.analysis.proofs.draft.equation.share_of.Goals as goal
 
-pub returns-in-Task : goal.returns-in-Task
-returns-in-Task g c =
-    let product = mul-le c.ceil_div.result c.in-Task.task.work 4294967296 1000000 (search rules) (search rules) in
-    record { value = search rules; bound = omega (arith, product) }
+pub overflow_mul-result : goal.overflow_mul-result
+overflow_mul-result g c =
+    let t = c.in-Task.task in
+    let small = task_share_small t.work t.period c.args.w c.requires.window in
+    search (rules, small)
