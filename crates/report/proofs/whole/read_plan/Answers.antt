@@ -18,19 +18,19 @@ returns-in_err-add-clause-answered g c =
     let f = c.in_err-add.field-0.0 in
     let here = record_of bs c.as_chunks.result.0.now c.loop-record.record-index (length bs / 20) _ c.as_chunks.ensures.front (omega arith) in
     let stop = lines_stop k bs c.loop-record.record-index (length bs / 20) (lines c.loop-record.draft) _ (number_of f.refusal) f.«record» f.byte
-    (omega arith) here c.loop-record.invariant.0 (sym c.in_err-add.ensures.answered) in
+    (omega arith) here c.loop-record.invariant (sym c.in_err-add.ensures.answered) in
     let p = err_from_is_err_and c.from_residual.result c.from_residual.ensures.1 in
     rw (p.1, p.2) (sym (plan_whole k bs (search rules) ∙ stop))
 
 pub loop-record-preserved : goal.loop-record-preserved
 loop-record-preserved g c =
     let here = record_of c.args.plan.now c.as_chunks.result.0.now c.loop-record.record-index (length c.args.plan.now / 20) _ c.as_chunks.ensures.front (omega arith) in
-    let more = lines_more g.S.Server.kind c.args.plan.now c.loop-record.record-index (lines c.loop-record.draft) _ c.in_ok-add.field-0 here c.loop-record.invariant.0 (sym c.in_ok-add.ensures.answered) in
-    (more ∙ sym (ap granted c.add.ensures.after), c.add.ensures.served c.loop-record.invariant.1)
+    let more = lines_more g.S.Server.kind c.args.plan.now c.loop-record.record-index (lines c.loop-record.draft) _ c.in_ok-add.field-0 here c.loop-record.invariant (sym c.in_ok-add.ensures.answered) in
+    more ∙ sym (ap granted c.add.ensures.after)
 
 pub returns-clause-answered : goal.returns-clause-answered
 returns-clause-answered g c =
     let k = g.S.Server.kind in
     let bs = c.args.plan.now in
     let end : c.loop-record.record-index ≡ length bs / 20 = omega arith in
-    sym (plan_whole k bs (search rules) ∙ ap (lines_to k bs) (sym end) ∙ c.loop-record.invariant.0)
+    sym (plan_whole k bs (search rules) ∙ ap (lines_to k bs) (sym end) ∙ c.loop-record.invariant)
