@@ -39,6 +39,7 @@ impl<S: Server> Draft<S> {
     }
 
     // The line that the bytes add, or why they add none.
+    #[tactic(auto, unfolding(crate::specs::Growth::added))]
     fn accepted(&self, bytes: &[u8]) -> Result<Line, Fault>
         ensures exact { answer result ≡ added S.Server.kind (lines self.now) bytes.now }
         ensures fit { IfOk result Fit }
