@@ -16,6 +16,7 @@ use std::mem;
 
 impl<S: Server> AdmittedPlan<S> {
     // An empty plan.
+    #[tactic(auto, unfolding(crate::specs::Times::times, crate::specs::Verdicts::verdict))]
     pub fn new() -> Self
         ensures empty { plan_lines result ≡ [] }
         ensures passing { AllPass S.Server.kind (plan_lines result) }
@@ -32,6 +33,7 @@ impl<S: Server> AdmittedPlan<S> {
     }
 
     // Its lines: at most 20, each within its bounds and of a letter that the kind serves, and all pass.
+    #[tactic(auto, using(crate::proofs::Judging::accepted_passes))]
     pub fn lines(&self) -> &[Line]
         ensures value { result.now ≡ plan_lines self.now }
         ensures few { length result.now ≤ 20 }
@@ -68,6 +70,7 @@ impl<S: Server> AdmittedPlan<S> {
 
     // Puts the lines of a draft that passes in place of its own, and leaves the draft empty. Where a line does not pass,
     // it is refused, and both stay as they stood.
+    #[tactic(auto, using(crate::proofs::Judging::accepted_passes))]
     pub fn admit(&mut self, draft: &mut Draft<S>) -> Result<(), LineFault>
         ensures answered { judged result ≡ verdict S.Server.kind (lines draft.old) }
         ensures draft_after { lines draft.new ≡ left_over (judged result) (lines draft.old) }
