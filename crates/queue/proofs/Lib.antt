@@ -1,4 +1,1 @@
-pub mod Bounds
-mod Changes
-mod Closing
-pub mod Ranks
+pub mod Changes

@@ -7,4 +7,4 @@ room q = min 64 (length q.places.now)
 
 -- the items of a queue, oldest first: what stands in the places taken, of which none is past the room
 unfoldable pub items : {T : Type 0} → Queue T → List T
-items q = take (min q.taken (room q)) q.places.now
+items q = take q.taken q.places.now

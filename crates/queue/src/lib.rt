@@ -2,6 +2,5 @@
 #![tactic(auto)]
 
 mod bounded;
-mod places;
 
 pub use bounded::Queue;

@@ -1,5 +1,5 @@
 -- The machine that a run is: its state, and what each call on it answers and leaves.
-use Rattle.std.specs.Prelude.{ℕ, ◌+◌, ◌-◌, min, Bool, true, false, cond, ◌||◌, List, [], ◌∷◌, ◌++◌, map, length, drop, Some, None, sum_by, count_by, Option, ◌==◌, nat_le, nat_lt, slice_set}
+use Rattle.std.specs.Prelude.{ℕ, ◌+◌, ◌-◌, min, Bool, true, false, cond, ◌||◌, List, [], ◌∷◌, ◌++◌, map, length, drop, Some, None, filter, sum_by, count_by, Option, ◌==◌, nat_le, nat_lt, slice_set}
 use Rattle.std.specs.List.{slice_get}
 use Rattle.server.specs.Kind.{Kind}
 use Rattle.plan.specs.declared.line.Line.{Line}
@@ -42,7 +42,7 @@ abbrev pub count_waiting : ℕ → List Request → ℕ
 count_waiting i ws = count_by (waits_for i) ws
 
 abbrev pub sum_waiting : ℕ → List Request → ℕ
-sum_waiting i ws = sum_by (λ r. cond (waits_for i r) r.left 0) ws
+sum_waiting i ws = sum_by (λ r. r.left) (filter (waits_for i) ws)
 
 -- what is told of a line: a task's unfinished work and next arrival; or what a server holds, how many requests wait and what
 -- they still need

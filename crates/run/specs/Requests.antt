@@ -1,5 +1,6 @@
 -- The requests that wait, earliest first.
-use Rattle.std.specs.Prelude.{ℕ, suc, ◌-◌, Bool, false, cond, ◌&&◌, ◌||◌, List, [], ◌∷◌, Some, None, Option, ◌==◌, nat_le}
+use Rattle.std.specs.Prelude.{ℕ, ◌-◌, Bool, cond, ◌&&◌, List, [], ◌∷◌, Some, None, Option, ◌==◌, nat_le}
+use Rattle.std.specs.List.{list_any}
 use Rattle.run.specs.declared.items.Request.{Request}
 
 -- the request waits for line i: it is one of that line, and still needs something
@@ -8,8 +9,7 @@ waits_for i r = r.line == i && nat_le 1 r.left
 
 -- some request waits for line i
 abbrev pub wanted : ℕ → List Request → Bool
-wanted i [] = false
-wanted i (r ∷ rs) = waits_for i r || wanted i rs
+wanted i ws = list_any (waits_for i) ws
 
 -- a request worked on for a tick
 abbrev pub lessened : Request → Request
@@ -19,11 +19,6 @@ lessened r = record { line = r.line; number = r.number; offered = r.offered; lef
 abbrev pub earliest : ℕ → List Request → Option Request
 earliest i [] = None
 earliest i (r ∷ rs) = cond (waits_for i r) (Some r) (earliest i rs)
-
--- its place, counted from 0; past the last where none waits
-abbrev pub first_place : ℕ → List Request → ℕ
-first_place i [] = 0
-first_place i (r ∷ rs) = cond (waits_for i r) 0 (suc (first_place i rs))
 
 -- that request is worked on for a tick; with nothing left to do it goes
 abbrev pub served : ℕ → List Request → List Request

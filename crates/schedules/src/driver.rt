@@ -36,8 +36,13 @@ fn granted<S: Server + Copy>(
             LineReport::Task { unfinished, next } => Answer::TaskHas(unfinished, next),
             LineReport::Server { held, waits, needs } => Answer::ServerHas(held, waits, needs),
         },
-        Call::Put(request) if session.requests.push(request) => Answer::Number(request.number),
-        Call::Put(_) => return Err(RunRefusal::Requests),
+        Call::Put(request) => {
+            session
+                .requests
+                .push(request)
+                .map_err(|_| RunRefusal::Requests)?;
+            Answer::Number(request.number)
+        }
     };
     Ok(answer)
 }

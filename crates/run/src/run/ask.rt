@@ -12,6 +12,8 @@ use queue::Queue;
 use server::kind::Server;
 
 impl<S: Server + Copy> Run<S> {
+    // What a line has, or has left to do.
+    #[tactic(auto, unfolding(crate::specs::Machine::asked))]
     pub fn ask(
         &self,
         requests: &Queue<'_, Request>,
@@ -20,9 +22,7 @@ impl<S: Server + Copy> Run<S> {
     ) -> Result<LineReport, RunRefusal>
         ensures { reported result ≡ asked line (machine S.Server self.now requests.now completions.now) }
     {
-        match self.row(line) {
-            None => Err(RunRefusal::Line),
-            Some(row) => Ok(row.report(requests.as_slice(), line)),
-        }
+        let row = self.row(line).ok_or(RunRefusal::Line)?;
+        Ok(row.report(requests, line))
     }
 }

@@ -12,6 +12,7 @@ use server::kind::Server;
 
 impl<S: Server + Copy> Run<S> {
     // The oldest completion, or none where none waits.
+    #[tactic(auto, unfolding(crate::specs::Machine::fetched))]
     pub fn fetch(
         &mut self,
         requests: &mut Queue<'_, Request>,
@@ -24,6 +25,7 @@ impl<S: Server + Copy> Run<S> {
     }
 
     // One more request, and its number. A refusal changes nothing.
+    #[tactic(auto, unfolding(crate::specs::Machine::offered))]
     pub fn offer(
         &mut self,
         requests: &mut Queue<'_, Request>,
@@ -47,9 +49,7 @@ impl<S: Server + Copy> Run<S> {
             offered: self.time,
             left: amount,
         };
-        if !requests.push(request) {
-            return Err(RunRefusal::Requests);
-        }
+        requests.push(request).map_err(|_| RunRefusal::Requests)?;
         self.offers = number;
         Ok(number)
     }

@@ -14,6 +14,7 @@ use server::kind::Server;
 
 impl<S: Server + Copy> Run<S> {
     // Ends the job of a task's line: its unfinished work goes, and its completion says so. A refusal changes nothing.
+    #[tactic(auto, unfolding(crate::specs::Machine::finished))]
     pub fn finish(
         &mut self,
         requests: &mut Queue<'_, Request>,

@@ -21,6 +21,7 @@ const LAST: u32 = 1_000_000_000;
 
 impl<S: Server + Copy> Run<S> {
     // One tick. A refusal changes nothing.
+    #[tactic(auto, unfolding(crate::specs::Machine::ticked))]
     pub fn tick(
         &mut self,
         requests: &mut Queue<'_, Request>,
