@@ -1,11 +1,10 @@
 -- What a whole plan's answer says of its times.
-use Rattle.std.proofs.Common.{◌≡◌, ℕ, ◌-◌, ◌≤◌, Bool, true, false, cond, leb, List, ◌++◌, length, take, drop, sym, refl, ap, ◌∙◌, subst, arith}
-use native.Mathlib.Nat.{sub-zero}
+use Rattle.std.proofs.Common.{◌≡◌, ℕ, ◌≤◌, Bool, true, false, cond, leb, List, ◌++◌, length, take, drop, sym, refl, ap, ◌∙◌, arith}
 use Rattle.std.proofs.lemmas.List.{take_at}
 use Rattle.std.proofs.lemmas.Bool.{cond-true, le-leb}
 use Rattle.plan.specs.Answers.{Answer, granted, refused}
 use Rattle.report.specs.Results.{plan_times, counted, filled}
-use Rattle.report.proofs.Extents.{Extent, plan_extent}
+use Rattle.report.proofs.Extents.{plan_extent}
 
 -- the times that were written
 record Times (a : Answer (List ℕ)) (count : ℕ) (after : List ℕ) : Type 0 where
@@ -37,16 +36,11 @@ times_refused (refused n r b) room number «record» byte fits e =
     cc
 
 -- what a caller with room for 20 times learns of a plan that is refused
-pub plan_refused : (bs : List ℕ) (number «record» byte : ℕ) → refused number «record» byte ≡ counted (plan_times bs) 20 → plan_times bs ≡ refused number «record» byte
-plan_refused bs number «record» byte = times_refused (plan_times bs) 20 number «record» byte (λ ts is. (plan_extent bs ts is).few)
+pub plan_refused : (bs : List ℕ) (room number «record» byte : ℕ) → 20 ≤ room → refused number «record» byte ≡ counted (plan_times bs) room → plan_times bs ≡ refused number «record» byte
+plan_refused bs room number «record» byte wide = times_refused (plan_times bs) room number «record» byte (λ ts is. omega (arith, (plan_extent bs ts is).few))
 
--- and of one that is not: its times are the part of the numbers that is lent on
-pub record Part (bs after : List ℕ) (count : ℕ) : Type 0 where
-  pub is : granted (take (count - 0) after) ≡ plan_times bs
-  pub extent : Extent bs (take (count - 0) after)
-
-pub plan_granted : (bs out after : List ℕ) (count : ℕ) → granted count ≡ counted (plan_times bs) (length out) → after ≡ filled (plan_times bs) out → Part bs after count
+-- and of one that is not: its times are the first numbers
+pub plan_granted : (bs out after : List ℕ) (count : ℕ) → granted count ≡ counted (plan_times bs) (length out) → after ≡ filled (plan_times bs) out → granted (take count after) ≡ plan_times bs
 plan_granted bs out after count e is =
     let got = times_granted (plan_times bs) out after count e is in
-    let part = ap (λ n. take n after) (sub-zero count) ∙ got.front in
-    record { is = ap granted part ∙ sym got.is; extent = subst (Extent bs) (sym part) (plan_extent bs got.ts got.is) }
+    ap granted got.front ∙ sym got.is

@@ -1,5 +1,6 @@
 -- What is answered for a whole plan.
 use Rattle.std.specs.Prelude.{ℕ, cond, List, ◌++◌, length, drop, Some, None, Ok, Err, Option, Result, nat_le}
+use Rattle.arrayvec.specs.ArrayVec.{ArrayVec}
 use Rattle.server.specs.declared.kind.Server.{Ghosts}
 use Rattle.server.specs.Kind.{Kind}
 use Rattle.plan.specs.Answers.{Answer, granted, refused, number_of}
@@ -34,6 +35,11 @@ counted (refused number «record» byte) room = refused number «record» byte
 abbrev pub filled : Answer (List ℕ) → List ℕ → List ℕ
 filled (granted ts) out = cond (nat_le (length ts) (length out)) (ts ++ drop (length ts) out) out
 filled (refused number «record» byte) out = out
+
+-- times in a vector of their own
+abbrev pub listed : Result (ArrayVec ℕ) Fault → Answer (List ℕ)
+listed (Ok times) = granted times.items
+listed (Err f) = refused (number_of f.refusal) f.«record» f.byte
 
 -- the lines, if the verdict on them is that all pass
 abbrev pub passing : List Line → Verdict → Option (List Line)

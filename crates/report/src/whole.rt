@@ -8,10 +8,11 @@ ghost use Rattle.plan.specs.Answers.{answer};
 ghost use Rattle.plan.specs.Kinds.{kind_letter};
 ghost use Rattle.plan.specs.Records.{is_server};
 ghost use Rattle.report.specs.Plans.{letters, plan_for, plan_letter};
-ghost use Rattle.report.specs.Results.{drafted, times_of, plan_times, counted, filled, admitted_lines};
+ghost use Rattle.report.specs.Results.{drafted, listed, times_of, plan_times, counted, filled, admitted_lines};
 
 use analysis::admitted::AdmittedPlan;
 use analysis::draft::Draft;
+use arrayvec::ArrayVec;
 use plan::fault::{Fault, Refusal};
 use plan::kind::ServerKind;
 use plan::line::is_server;
@@ -91,4 +92,14 @@ pub fn plan_times(plan: &[u8], out: &mut [u32]) -> Result<u32, Fault>
         ServerKind::Deferrable => times_for::<Deferrable>(plan, out),
         ServerKind::Sporadic => times_for::<Sporadic>(plan, out),
     }
+}
+
+// The response time of each line of a whole plan, 0 where a line does not pass.
+pub fn all_times(plan: &[u8]) -> Result<ArrayVec<u32, 20>, Fault>
+    ensures { listed result ≡ plan_times plan.now }
+{
+    let mut times = ArrayVec::from([0; 20]);
+    let count = plan_times(plan, &mut times)?;
+    times.truncate(count as usize);
+    Ok(times)
 }

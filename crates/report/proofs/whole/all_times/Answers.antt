@@ -1,0 +1,18 @@
+use Rattle.std.proofs.Common.{take, sym, ap, ◌∙◌, rules}
+use Rattle.std.proofs.lemmas.Result.{err_from_is_err_and}
+use Rattle.arrayvec.proofs.ArrayVecLemmas.{items-with_items}
+use Rattle.plan.specs.Answers.{granted, number_of}
+use Rattle.report.proofs.Outcomes.{plan_granted, plan_refused}
+use Rattle.report.proofs.whole.all_times.Goals as goal
+
+pub returns : goal.returns
+returns c =
+    let written = items-with_items c.from-times.result c.plan_times.new.out (search rules) in
+    ap granted (c.truncate.ensures.items ∙ ap (take c.in_ok-count.count) written)
+    ∙ plan_granted c.args.plan.now _ _ c.in_ok-count.count c.in_ok-count.ensures.answered c.plan_times.ensures.after
+
+pub returns-in_err-count : goal.returns-in_err-count
+returns-in_err-count c =
+    let f = c.in_err-count.field-0.0 in
+    let p = err_from_is_err_and c.from_residual.result c.from_residual.ensures.1 in
+    rw (p.1, p.2) (sym (plan_refused c.args.plan.now _ (number_of f.refusal) f.«record» f.byte (search rules) c.in_err-count.ensures.answered))
