@@ -1,29 +1,36 @@
 -- The first line of a text, and what follows it.
-use Rattle.std.proofs.Common.{◌≡◌, ℕ, suc, ◌+◌, ◌-◌, ◌<◌, ◌≤◌, min, true, false, List, [], ◌∷◌, length, take, drop, Some, None, sym, refl, ap, ◌∙◌, ⊎_elim, arith}
-use Rattle.std.proofs.lemmas.List.{drop_all, take_rest}
-use Rattle.std.proofs.lemmas.Bool.{cases_lt}
-use Rattle.script.specs.declared.bytes.Class.TheVariants.{Line}
-use Rattle.script.specs.Texts.{first_line, after_line}
-use Rattle.script.specs.Words.{is_empty, leading}
+use Rattle.std.proofs.Common.{◌≡◌, ℕ, ◌≤◌, Bool, true, false, cond, List, [], ◌∷◌, length, Some, None, sym, refl, arith, rules}
+use Rattle.std.proofs.lemmas.Bool.{ltb-false}
+use Rattle.std.proofs.lemmas.List.{take_all, drop_all}
+use Rattle.std.specs.List.{before_first, after_first, position, position_or_len}
+use Rattle.script.specs.Texts.{first_line, after_line, is_feed}
+use Rattle.script.specs.Words.{is_empty}
 
 pub no_line : (bs : List ℕ) → length bs ≡ 0 → (None ≡ first_line bs) × (bs ≡ after_line bs) × (is_empty bs ≡ true)
 unfolding first_line after_line
 no_line [] none = (refl, refl, refl)
 no_line (b ∷ bs) none = absurd (omega arith)
 
-pub one_line : (bs : List ℕ) → (length bs ≡ 0 → ⊥) → (Some (take (leading Line bs) bs) ≡ first_line bs) × (is_empty bs ≡ false)
-unfolding first_line
+pub one_line : (bs : List ℕ) → (length bs ≡ 0 → ⊥) → (Some (before_first is_feed bs) ≡ first_line bs) × (after_first is_feed bs ≡ after_line bs) × (is_empty bs ≡ false)
+unfolding first_line after_line
 one_line [] some = absurd (some refl)
-one_line (b ∷ bs) some = (refl, refl)
+one_line (b ∷ bs) some = (refl, refl, refl)
 
-pub next_line : (bs : List ℕ) (e m : ℕ) → e ≡ leading Line bs → m ≡ min (e + 1) (length bs) → take (length bs - m) (drop m bs) ≡ after_line bs
-unfolding after_line
-next_line bs e m is far =
-    take_rest bs m
-    ∙ ⊎_elim
-    (λ (less : e < length bs).
-    let there : m ≡ suc e = omega (arith, far) in
-    ap (λ n. drop n bs) there ∙ ap (λ n. drop (suc n) bs) is)
-    (λ (all : length bs ≤ e).
-    drop_all m bs (omega (arith, far)) ∙ sym (drop_all (suc (leading Line bs)) bs (omega (arith, is))))
-    (cases_lt e (length bs))
+-- a place that was found, and none
+pub at_place : (within : Bool) (n e : ℕ) → Some e ≡ cond within (Some n) None → e ≡ n
+at_place true n e is = search rules
+at_place false n e is = search rules
+
+no_place : (within : Bool) (n : ℕ) → None ≡ cond within (Some n) None → within ≡ false
+no_place true n is = search rules
+no_place false n is = refl
+
+module _ (bs : List ℕ) (none : None ≡ position is_feed bs) where
+  past : length bs ≤ position_or_len is_feed bs
+  past = ltb-false _ _ (no_place _ _ none)
+
+  pub all_before : bs ≡ before_first is_feed bs
+  all_before = sym (take_all _ bs past)
+
+  pub none_after : [] ≡ after_first is_feed bs
+  none_after = sym (drop_all _ bs (omega (arith, past)))

@@ -1,5 +1,5 @@
-mod Scanning
 mod Splitting
+mod Counting
+mod Saying
 mod Reading
 mod Feeding
-mod Keeping

@@ -1,15 +1,13 @@
 // What a line of text says.
 ghost use Rattle.std.specs.Prelude.{◌≡◌};
-ghost use Rattle.std.specs.Str.{bytes_eq};
 ghost use Rattle.script.specs.Words.{word};
-ghost use Rattle.script.specs.declared.command.Command.TheVariants.{Finish, Ask};
-ghost use Rattle.script.specs.Commands.{plan_line, queues, ticks, offer, alone, with_one, long_named, is_skipped, command};
+ghost use Rattle.script.specs.Commands.{plan_line, queues, offer, alone, one, long_named, command};
 
-use crate::arguments::{ends_at, four, one, two};
+use crate::arguments::numbers;
 use crate::words::word;
 use plan::line::{Line, ServerLine, Task, is_server};
 
-#[derive(Clone, Copy)]
+#[derive(Clone, Copy, Debug, PartialEq, Eq)]
 pub enum Command {
     // nothing: an empty line, or a comment
     Skip,
@@ -31,54 +29,41 @@ fn plan_line(letter: u8, line: &[u8]) -> Option<Command>
     ensures { result ≡ plan_line letter line.now }
 {
     if letter == b'T' {
-        let ((work, period), (deadline, first)) = four(line)?;
+        let [work, period, deadline, first] = numbers::<4>(line)?;
         let task = Task {
             work,
             period,
             deadline,
             first,
         };
-        return Some(Command::Line(Line::Task(task)));
-    }
-    if !is_server(letter) {
-        return None;
-    }
-    let (budget, period) = two(line)?;
-    let server = ServerLine {
-        letter,
-        budget,
-        period,
-    };
-    Some(Command::Line(Line::Server(server)))
-}
-
-fn queues(line: &[u8]) -> Option<Command>
-    ensures { result ≡ queues line.now }
-{
-    let (requests, completions) = two(line)?;
-    if requests <= 64 && completions <= 64 {
-        Some(Command::Queues {
-            requests,
-            completions,
-        })
+        Some(Command::Line(Line::Task(task)))
+    } else if is_server(letter) {
+        let [budget, period] = numbers::<2>(line)?;
+        let server = ServerLine {
+            letter,
+            budget,
+            period,
+        };
+        Some(Command::Line(Line::Server(server)))
     } else {
         None
     }
 }
 
-fn ticks(line: &[u8]) -> Option<Command>
-    ensures { result ≡ ticks line.now }
+fn queues(line: &[u8]) -> Option<Command>
+    ensures { result ≡ queues line.now }
 {
-    if ends_at(line, 1) {
-        return Some(Command::Tick(1));
-    }
-    Some(Command::Tick(one(line)?))
+    let [requests, completions] = numbers::<2>(line)?;
+    (requests <= 64 && completions <= 64).then_some(Command::Queues {
+        requests,
+        completions,
+    })
 }
 
 fn offer(line: &[u8]) -> Option<Command>
     ensures { result ≡ offer line.now }
 {
-    let (line, amount) = two(line)?;
+    let [line, amount] = numbers::<2>(line)?;
     Some(Command::Offer { line, amount })
 }
 
@@ -86,73 +71,42 @@ fn offer(line: &[u8]) -> Option<Command>
 fn alone(line: &[u8], command: Command) -> Option<Command>
     ensures { result ≡ alone line.now command }
 {
-    if ends_at(line, 1) {
-        Some(command)
-    } else {
-        None
-    }
+    let [] = numbers::<0>(line)?;
+    Some(command)
 }
 
-fn is(name: &[u8], other: &[u8]) -> bool
-    ensures { result ≡ bytes_eq name.now other.now }
+// The number after a word, if there is one and no more.
+fn one(line: &[u8]) -> Option<u32>
+    ensures { result ≡ one line.now }
 {
-    name == other
-}
-
-// A word and one number.
-fn finish(line: &[u8]) -> Option<Command>
-    ensures { result ≡ with_one line.now Finish }
-{
-    Some(Command::Finish(one(line)?))
-}
-
-fn ask(line: &[u8]) -> Option<Command>
-    ensures { result ≡ with_one line.now Ask }
-{
-    Some(Command::Ask(one(line)?))
+    let [n] = numbers::<1>(line)?;
+    Some(n)
 }
 
 // A line whose first word is longer than a letter.
 fn long_named(name: &[u8], line: &[u8]) -> Option<Command>
-    requires { name.now ≡ word line.now 0 }
-    ensures { result ≡ long_named line.now }
+    ensures { result ≡ long_named name.now line.now }
 {
-    if is(name, b"queues") {
-        queues(line)
-    } else if is(name, b"start") {
-        alone(line, Command::Start)
-    } else if is(name, b"tick") {
-        ticks(line)
-    } else if is(name, b"offer") {
-        offer(line)
-    } else if is(name, b"finish") {
-        finish(line)
-    } else if is(name, b"fetch") {
-        alone(line, Command::Fetch)
-    } else if is(name, b"ask") {
-        ask(line)
-    } else {
-        None
+    match name {
+        b"queues" => queues(line),
+        b"start" => alone(line, Command::Start),
+        b"tick" => alone(line, Command::Tick(1)).or(one(line).map(Command::Tick)),
+        b"offer" => offer(line),
+        b"finish" => one(line).map(Command::Finish),
+        b"fetch" => alone(line, Command::Fetch),
+        b"ask" => one(line).map(Command::Ask),
+        _ => None,
     }
-}
-
-// An empty line, or a comment.
-fn is_skipped(name: &[u8]) -> bool
-    ensures { result ≡ is_skipped name.now }
-{
-    name.is_empty() || name[0] == b'#'
 }
 
 // What a line says, if it says anything that is known.
 pub fn read(line: &[u8]) -> Option<Command>
     ensures { result ≡ command line.now }
 {
-    let name = word(line, 0);
-    if is_skipped(name) {
-        Some(Command::Skip)
-    } else if name.len() == 1 {
-        plan_line(name[0], line)
-    } else {
-        long_named(name, line)
+    match word(line, 0) {
+        // an empty line, or a comment
+        [] | [b'#', ..] => Some(Command::Skip),
+        [letter] => plan_line(*letter, line),
+        name => long_named(name, line),
     }
 }

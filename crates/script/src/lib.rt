@@ -2,7 +2,6 @@
 #![tactic(auto)]
 
 mod arguments;
-mod bytes;
 pub mod command;
 pub mod lines;
 mod number;

@@ -1,10 +1,8 @@
 // The lines of a text, one after the other.
-ghost use Rattle.std.specs.Prelude.{◌≡◌, ◌+◌, min, if◌then◌else◌};
-ghost use Rattle.std.specs.Option.{option_map};
-ghost use Rattle.script.specs.Texts.{first_line, after_line};
-ghost use Rattle.script.specs.Words.{is_empty};
-
-use crate::bytes::{Class, leading};
+ghost use Rattle.std.specs.Prelude.{◌≡◌, length, position};
+ghost use Rattle.std.specs.Iterator.{at_most};
+ghost use Rattle.std.specs.List.{before_first, after_first};
+ghost use Rattle.script.specs.Texts.{GivesLine, is_feed};
 
 #[derive(Drop)]
 pub struct Lines<'a> {
@@ -22,28 +20,41 @@ impl<'a> Lines<'a> {
             number: 0,
         }
     }
+}
 
-    // The number of the line that was last given, counted from 1; it stays at 4,294,967,295.
-    pub fn number(&self) -> u32
-        ensures { result ≡ self.now.number }
-    {
-        self.number
+// Where the first line feed stands, if there is one.
+fn feed(text: &[u8]) -> Option<usize>
+    ensures { result ≡ position is_feed text.now }
+{
+    text.iter().position(|byte| *byte == b'\n')
+}
+
+// The bytes before the first line feed, and those after it.
+fn cut(text: &[u8]) -> (&[u8], &[u8])
+    ensures before { result.0.now ≡ before_first is_feed text.now }
+    ensures after { result.1.now ≡ after_first is_feed text.now }
+{
+    match feed(text) {
+        Some(end) => (&text[..end], &text[end + 1..]),
+        None => (text, &[]),
     }
+}
 
-    // The next line; none after the last.
-    pub fn next(&mut self) -> Option<&'a [u8]>
-        ensures line { option_map (λ l. l.now) result ≡ first_line self.old.rest.now }
-        ensures rest { self.new.rest.now ≡ after_line self.old.rest.now }
-        ensures number { self.new.number ≡ (if is_empty self.old.rest.now then self.old.number else min (self.old.number + 1) 4294967295) }
-    {
+// Each line with its number, counted from 1; it stays at 4,294,967,295.
+impl<'a> Iterator for Lines<'a> {
+    type Item = (u32, &'a [u8]);
+
+    ghost next_gives = { GivesLine };
+
+    ghost remaining = { λ s. at_most (length s.rest.now) };
+
+    fn next(&mut self) -> Option<(u32, &'a [u8])> {
         if self.rest.is_empty() {
             return None;
         }
-        let end = leading(Class::Line, self.rest);
-        let line = &self.rest[..end];
-        let after = end.saturating_add(1).min(self.rest.len());
-        self.rest = &self.rest[after..];
+        let (line, rest) = cut(self.rest);
+        self.rest = rest;
         self.number = self.number.saturating_add(1);
-        Some(line)
+        Some((self.number, line))
     }
 }

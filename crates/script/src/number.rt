@@ -6,10 +6,7 @@ ghost use Rattle.script.specs.Numbers.{extended, number};
 fn extended(value: u32, byte: u8) -> Option<u32>
     ensures { result ≡ extended value byte }
 {
-    if !byte.is_ascii_digit() {
-        return None;
-    }
-    let digit = (byte - b'0') as u32;
+    let digit = (byte as char).to_digit(10)?;
     value.checked_mul(10)?.checked_add(digit)
 }
 

@@ -2,7 +2,8 @@ ghost use Rattle.std.specs.Prelude.{◌≡◌, [], ◌++◌, length, if◌then�
 ghost use Rattle.plan.specs.Records.{encoded};
 ghost use Rattle.script.specs.Kept.{kept};
 
-use super::{ROOM, Records};
+use super::Records;
+use arrayvec::ArrayVec;
 use plan::encode::encode;
 use plan::line::Line;
 
@@ -11,8 +12,7 @@ impl Records {
         ensures { kept result ≡ [] }
     {
         Records {
-            bytes: [0; ROOM],
-            len: 0,
+            bytes: ArrayVec::new(),
         }
     }
 
@@ -20,17 +20,12 @@ impl Records {
     pub fn add(&mut self, line: &Line)
         ensures { kept self.new ≡ (if nat_le (length (kept self.old)) 420 then kept self.old ++ encoded line.now else kept self.old) }
     {
-        let start = self.len;
-        if start <= ROOM - 20 {
-            self.bytes[start..start + 20].copy_from_slice(&encode(line));
-            self.len = start + 20;
-        }
+        let _ = self.bytes.try_extend_from_slice(&encode(line));
     }
 
     pub fn as_bytes(&self) -> &[u8]
         ensures { result.now ≡ kept self.now }
     {
-        let all = &self.bytes[..];
-        &all[0..self.len]
+        self.bytes.as_slice()
     }
 }
