@@ -4,24 +4,28 @@
 use script::command::{Command, read};
 use script::lines::Lines;
 use script::records::Records;
-use std::io;
 use std::io::{Read, Write};
-use text::Text;
+use std::{fmt, io};
 
-// The plan that stands before the start, or the number of the first line that is no part of it.
-fn plan_of(text: &[u8]) -> Result<Records, u32> {
-    let mut lines = Lines::new(text);
+// The number of a line that is no part of a plan.
+#[derive(Debug, Drop)]
+struct BadLine(u32);
+
+impl fmt::Display for BadLine {
+    fn fmt<W: fmt::Write>(&self, f: &mut fmt::Formatter<W>) -> fmt::Result {
+        write!(f, "bad line {}", self.0)
+    }
+}
+
+// The plan that stands before the start.
+fn plan_of(text: &[u8]) -> Result<Records, BadLine> {
     let mut records = Records::new();
-    // no text has more lines than bytes
-    for _ in 0..text.len() {
-        let Some(line) = lines.next() else {
-            break;
-        };
+    for (number, line) in Lines::new(text) {
         match read(line) {
             Some(Command::Skip | Command::Queues { .. }) => {}
             Some(Command::Line(line)) => records.add(&line),
             Some(Command::Start) => break,
-            _ => return Err(lines.number()),
+            _ => return Err(BadLine(number)),
         }
     }
     Ok(records)
@@ -33,12 +37,9 @@ fn main(rt: HostRuntime) -> io::Result<()> {
     rt.stdin().read_to_end(&mut text)?;
     match plan_of(text.as_slice()) {
         Ok(records) => rt.stdout().write_all(records.as_bytes()),
-        Err(number) => {
-            let mut message = Text::new();
-            message.push_labelled(b"bad line ", number as u64);
-            message.push(b'\n');
-            rt.stdout().write_all(message.as_bytes())?;
-            rt.stderr().write_all(message.as_bytes())
+        Err(bad) => {
+            println!(rt; "{bad}")?;
+            eprintln!(rt; "{bad}")
         }
     }
 }
