@@ -8,3 +8,7 @@ use Rattle.text.specs.Written.{tagged, labelled}
 pub labelled_width : (word : List ℕ) (n : ℕ) → n < 2 ^ 64 → length (labelled word n) ≤ length word + 20
 unfolding tagged
 labelled_width word n small = simp length-append (omega (arith, length-decimal-le 20 n (lit< tt) (omega arith) (omega arith)))
+
+-- a word and a number of 32 bits
+pub labelled_width_32 : (word : List ℕ) (n : ℕ) → n < 2 ^ 32 → length (labelled word n) ≤ length word + 20
+labelled_width_32 word n small = let wide : 2 ^ 32 < 2 ^ 64 = lit< tt in labelled_width word n (omega (arith, small, wide))

@@ -1,5 +1,6 @@
 -- The rows that answer the calls on a run, as text.
-use Rattle.std.specs.Prelude.{ℕ, cond, List, [], ◌∷◌, ◌++◌, Some, None, codes, Option}
+use Rattle.std.specs.Prelude.{ℕ, List, [], ◌∷◌, ◌++◌, Some, None, codes, Option}
+use Rattle.std.specs.Int.{from_bool}
 use Rattle.text.specs.Hex.{hex}
 use Rattle.text.specs.Written.{labelled}
 use Rattle.run.specs.Machine.{Tick, Report, task_report, server_report}
@@ -18,7 +19,7 @@ tick_row t = row (labelled (codes "tick ") t.number ++ (labelled (codes " line "
 unfoldable pub completion_row : Completion → List ℕ
 completion_row c =
     row (labelled (codes "completion ") c.line
-    ++ (labelled (codes " ") c.number ++ (labelled (codes " ") c.ticks ++ labelled (codes " ") (cond c.early 1 0))))
+    ++ (labelled (codes " ") c.number ++ (labelled (codes " ") c.ticks ++ labelled (codes " ") (from_bool c.early))))
 
 -- work 2 next 12; holds 0 waits 1 needs 2
 unfoldable pub report_row : Report → List ℕ

@@ -1,5 +1,5 @@
 // The rows that answer the calls on a run.
-ghost use Rattle.std.specs.Prelude.{◌≡◌, ◌≤◌, length, if◌then◌else◌, codes};
+ghost use Rattle.std.specs.Prelude.{◌≡◌, ◌≤◌, length, codes};
 ghost use Rattle.text.specs.Written.{written};
 ghost use Rattle.run.specs.Answers.{tick_of};
 ghost use Rattle.run.specs.Machine.{task_report, server_report};
@@ -14,30 +14,34 @@ use text::Text;
 pub(crate) fn tick_row(ticked: &Ticked) -> Text
     ensures { written result ≡ tick_row (tick_of ticked.now) }
 {
+    let Ticked {
+        number,
+        line,
+        ready,
+    } = *ticked;
     let mut text = Text::new();
-    text.push_labelled(b"tick ", ticked.number as u64);
-    text.push_labelled(b" line ", ticked.line as u64);
+    text.push_labelled(b"tick ", number);
+    text.push_labelled(b" line ", line);
     text.push_all(b" ready ");
-    text.push_hex(ticked.ready, 8);
+    text.push_hex(ready, 8);
     text.push(b'\n');
     text
-}
-
-// 1 for true, 0 for false.
-fn flag(on: bool) -> u64
-    ensures { result ≡ (if on then 1 else 0) }
-{
-    if on { 1 } else { 0 }
 }
 
 pub(crate) fn completion_row(completion: &Completion) -> Text
     ensures { written result ≡ completion_row completion.now }
 {
+    let Completion {
+        line,
+        number,
+        ticks,
+        early,
+    } = *completion;
     let mut text = Text::new();
-    text.push_labelled(b"completion ", completion.line as u64);
-    text.push_labelled(b" ", completion.number as u64);
-    text.push_labelled(b" ", completion.ticks as u64);
-    text.push_labelled(b" ", flag(completion.early));
+    text.push_labelled(b"completion ", line);
+    text.push_labelled(b" ", number);
+    text.push_labelled(b" ", ticks);
+    text.push_labelled(b" ", u8::from(early));
     text.push(b'\n');
     text
 }
@@ -64,8 +68,8 @@ fn server_row(held: u32, waits: u32, needs: u64) -> Text
     ensures { written result ≡ report_row (server_report held waits needs) }
 {
     let mut text = Text::new();
-    text.push_labelled(b"holds ", held as u64);
-    text.push_labelled(b" waits ", waits as u64);
+    text.push_labelled(b"holds ", held);
+    text.push_labelled(b" waits ", waits);
     text.push_labelled(b" needs ", needs);
     text.push(b'\n');
     text
@@ -86,7 +90,7 @@ pub(crate) fn number_row(word: &[u8], n: u32) -> Text
     ensures { written result ≡ number_row word.now n }
 {
     let mut text = Text::new();
-    text.push_labelled(word, n as u64);
+    text.push_labelled(word, n);
     text.push(b'\n');
     text
 }
