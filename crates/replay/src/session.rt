@@ -4,9 +4,10 @@ ghost use Rattle.run.specs.Sessions.{SessionFitsInMemory};
 use crate::calls::{ask, fetch, finish, offer, tick};
 use crate::setup::Setup;
 use crate::stop::Stop;
+use plan::kind::ServerKind;
 use queue::Queue;
 use report::shown::times_text;
-use report::whole::{admitted_plan, plan_letter};
+use report::whole::{admitted_plan, plan_kind};
 use run::items::{NO_COMPLETION, NO_REQUEST};
 use run::session::Session;
 use script::command::{Command, read};
@@ -102,9 +103,9 @@ pub(crate) fn replay(text: &[u8], out: &mut Out) -> Result<(), Stop> {
         return Ok(());
     };
     out.write_all(times_text(setup.records.as_bytes()).as_bytes())?;
-    match plan_letter(setup.records.as_bytes()) {
-        b'D' => play::<Deferrable>(&setup, &mut lines, out),
-        b'S' => play::<Sporadic>(&setup, &mut lines, out),
-        _ => play::<Polling>(&setup, &mut lines, out),
+    match plan_kind(setup.records.as_bytes()) {
+        ServerKind::Polling => play::<Polling>(&setup, &mut lines, out),
+        ServerKind::Deferrable => play::<Deferrable>(&setup, &mut lines, out),
+        ServerKind::Sporadic => play::<Sporadic>(&setup, &mut lines, out),
     }
 }
