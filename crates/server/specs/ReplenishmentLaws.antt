@@ -1,9 +1,14 @@
 -- The laws of the list of pending replenishments.
-use Rattle.std.specs.Prelude.{◌≡◌, ℕ, zero, suc, ◌+◌, ◌<◌, ◌≤◌, max, Bool, true, false, cond, List, [], ◌∷◌, ◌++◌, length, nat_lt, slice_index_or, slice_set, refl}
+use Rattle.std.specs.Prelude.{◌≡◌, ℕ, zero, suc, ◌+◌, ◌<◌, ◌≤◌, max, Bool, true, false, cond, List, [], ◌∷◌, ◌++◌, length, get_or, nat_lt, slice_index_or, slice_set, refl}
 use Rattle.std.proofs.Common.{ap, length-append, arith}
 use Rattle.std.proofs.lemmas.Bool.{lt-ltb, le-ltb, ltb-true, cond-true, cond-false, cond_both}
 use Rattle.server.specs.declared.entry.Entry.{Entry}
 use Rattle.server.specs.Replenishments.{total, added, merged, written}
+
+pub entry_le_total : (es : List Entry) (k : ℕ) (d : Entry) → k < length es → (get_or es k d).amount ≤ total es
+entry_le_total [] k d lt = omega arith
+entry_le_total (e ∷ es) zero d lt = omega arith
+entry_le_total (e ∷ es) (suc k) d lt = omega (arith, entry_le_total es k d (omega arith))
 
 -- what is written is added to the total
 pub total_push : (es : List Entry) (new : Entry) → total (es ++ new ∷ []) ≡ total es + new.amount
