@@ -1,4 +1,4 @@
 // The library, with its answers as plain values.
-pub(crate) mod answers;
-pub(crate) mod side;
-pub(crate) mod start;
+mod answers;
+pub(crate) mod any_run;
+pub(crate) mod whole_plan;

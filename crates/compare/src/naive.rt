@@ -2,8 +2,11 @@
 pub(crate) mod bytes;
 pub(crate) mod lines;
 pub(crate) mod list;
-pub(crate) mod machine;
+mod pieces;
+pub(crate) mod plain_run;
+pub(crate) mod refusal;
 pub(crate) mod response;
-pub(crate) mod row;
-pub(crate) mod side;
-pub(crate) mod sporadic;
+mod row;
+mod server_row;
+mod task_row;
+mod tick;

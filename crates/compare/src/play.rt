@@ -1,12 +1,86 @@
-// The runs of a scene: their start, and their way through the calls.
-use crate::draw::scene::{Actor, Scene};
-use crate::library::side::{AnyRun, LibrarySide, Queues};
-use crate::library::start::start;
-use crate::naive::machine::Machine;
-use crate::naive::side::{Lists, NaiveSide};
-use crate::runs::{Both, Counts, RunDifference};
+// The runs of a scene: every answer of both sides.
+use crate::answer::{Answered, Ended, Wait};
+use crate::draw::calls::{Call, Op, QueueOp};
+use crate::draw::scene::{Actor, CALLS, Scene};
+use crate::kind::Kind;
+use crate::library::any_run::AnyRun;
+use crate::naive::list::List;
+use crate::naive::plain_run::PlainRun;
+use crate::side::{Pair, Side, Which};
+use crate::tally::{Totals, count};
 use queue::Queue;
 use run::items::{Completion, Request};
+
+// After how many calls of a scene the sides differ, at which call, and what each answered.
+#[derive(Clone, Copy)]
+pub(crate) struct CallDifference {
+    pub(crate) after: usize,
+    pub(crate) call: Call,
+    pub(crate) library: Answered,
+    pub(crate) naive: Answered,
+}
+
+// Two sides of the same two runs.
+#[derive(Drop)]
+struct Both<'a> {
+    library: Side<AnyRun, Queue<'a, Request>, Queue<'a, Completion>>,
+    naive: Side<PlainRun, List<Wait>, List<Ended>>,
+    served: Pair<Option<Kind>>,
+}
+
+impl<'a> Both<'a> {
+    // One call on both sides.
+    fn step(
+        &mut self,
+        totals: &mut Totals,
+        after: usize,
+        call: Call,
+    ) -> Result<(), CallDifference> {
+        let library = self.library.answer(&call);
+        let naive = self.naive.answer(&call);
+        totals.note(*self.served.of(call.run), &call, &library);
+        if library == naive {
+            Ok(())
+        } else {
+            Err(CallDifference {
+                after,
+                call,
+                library,
+                naive,
+            })
+        }
+    }
+
+    // The calls of a scene.
+    fn calls(&mut self, totals: &mut Totals, scene: &Scene) -> Result<(), CallDifference> {
+        for (after, call) in scene.calls.iter().enumerate() {
+            self.step(totals, after, *call)?;
+        }
+        Ok(())
+    }
+
+    // Ticks of the first run to the time 1,000,000,000, and one more.
+    fn ticks(&mut self, totals: &mut Totals) -> Result<(), CallDifference> {
+        let tick = Call::own(Which::First, Op::Tick);
+        for _ in 0..1_000_000_001u32 {
+            self.step(totals, 0, tick)?;
+        }
+        Ok(())
+    }
+
+    // Asks of every line, and looks at every place of the queues.
+    fn state(&mut self, totals: &mut Totals, run: Which) -> Result<(), CallDifference> {
+        for line in 0..22u32 {
+            self.step(totals, CALLS, Call::own(run, Op::Ask(line)))?;
+        }
+        for place in 0..65u32 {
+            for op in [QueueOp::SeeRequest(place), QueueOp::SeeCompletion(place)] {
+                self.step(totals, CALLS, Call::own(run, Op::Queue(op)))?;
+            }
+        }
+        Ok(())
+    }
+}
 
 const REQUEST: Request = Request {
     line: 1,
@@ -22,68 +96,81 @@ const COMPLETION: Completion = Completion {
     early: true,
 };
 
-// Queues over lent memory, with an item each where there is room: starting a run empties them.
-fn queues<'a>(requests: &'a mut [Request], completions: &'a mut [Completion]) -> Queues<'a> {
-    let mut requests = Queue::new(requests);
-    let mut completions = Queue::new(completions);
-    let _ = requests.push(REQUEST);
-    let _ = completions.push(COMPLETION);
-    Queues {
-        requests,
-        completions,
+// A queue over so many places of lent memory, with an item where there is room: starting a run empties it.
+fn lent<'a, T: Copy + Drop>(memory: &'a mut [T; 80], places: usize, item: T) -> Queue<'a, T> {
+    let mut queue = Queue::new(&mut memory[..places.min(80)]);
+    let _ = queue.push(item);
+    queue
+}
+
+fn library_run(
+    actor: &Actor,
+    requests: &mut Queue<'_, Request>,
+    completions: &mut Queue<'_, Completion>,
+) -> AnyRun {
+    AnyRun::start(actor.kind, actor.drawn.as_slice(), requests, completions)
+}
+
+fn naive_side(scene: &Scene) -> Side<PlainRun, List<Wait>, List<Ended>> {
+    let Pair { first, second } = scene.places;
+    Side {
+        runs: Pair {
+            first: PlainRun::new(&scene.actors.first.plan),
+            second: PlainRun::new(&scene.actors.second.plan),
+        },
+        requests: Pair {
+            first: List::new(first.requests),
+            second: List::new(second.requests),
+        },
+        completions: Pair {
+            first: List::new(first.completions),
+            second: List::new(second.completions),
+        },
     }
 }
 
-fn naive_side(scene: &Scene) -> NaiveSide {
-    let [a, b, c, d] = scene.places;
-    NaiveSide {
-        first: Machine::new(&scene.actors[0].plan),
-        second: Machine::new(&scene.actors[1].plan),
-        own: Lists::new(a, b),
-        other: Lists::new(c, d),
+impl Totals {
+    // The two runs of a scene, through all its calls; before them the first run is ticked to the end of time if so asked.
+    pub(crate) fn play(&mut self, scene: &Scene, to_the_end: bool) -> Result<(), CallDifference> {
+        let Pair { first, second } = scene.places;
+        let (mut one, mut two) = ([REQUEST; 80], [COMPLETION; 80]);
+        let (mut three, mut four) = ([REQUEST; 80], [COMPLETION; 80]);
+        let mut requests = Pair {
+            first: lent(&mut one, first.requests, REQUEST),
+            second: lent(&mut three, second.requests, REQUEST),
+        };
+        let mut completions = Pair {
+            first: lent(&mut two, first.completions, COMPLETION),
+            second: lent(&mut four, second.completions, COMPLETION),
+        };
+        let Pair { first, second } = &scene.actors;
+        let runs = Pair {
+            first: library_run(first, &mut requests.first, &mut completions.first),
+            second: library_run(second, &mut requests.second, &mut completions.second),
+        };
+        let mut both = Both {
+            library: Side {
+                runs,
+                requests,
+                completions,
+            },
+            naive: naive_side(scene),
+            served: Pair {
+                first: first.served(),
+                second: second.served(),
+            },
+        };
+        if to_the_end {
+            both.ticks(self)?;
+        }
+        both.calls(self, scene)?;
+        both.state(self, Which::First)?;
+        both.state(self, Which::Second)?;
+        for run in [Which::First, Which::Second] {
+            count(&mut self.runs.of(*both.served.of(run)).runs);
+            let merged = both.naive.runs.of(run).merged();
+            self.merged = self.merged.saturating_add(merged);
+        }
+        Ok(())
     }
-}
-
-fn library_run(actor: &Actor, queues: &mut Queues<'_>) -> AnyRun {
-    let bytes = &actor.drawn.bytes[0..actor.drawn.length.min(460)];
-    start(actor.letter, bytes, queues)
-}
-
-// Both sides of the two runs of a scene, just started.
-fn started<'a>(
-    scene: &Scene,
-    mut own: Queues<'a>,
-    mut other: Queues<'a>,
-    counts: &Counts,
-) -> Both<'a> {
-    let first = library_run(&scene.actors[0], &mut own);
-    let second = library_run(&scene.actors[1], &mut other);
-    let library = LibrarySide {
-        first,
-        second,
-        own,
-        other,
-    };
-    Both {
-        library,
-        naive: naive_side(scene),
-        counts: *counts,
-    }
-}
-
-// The two runs of a scene, through all its calls; before them the first run is ticked to the end of time if so asked.
-pub(crate) fn play(
-    scene: &Scene,
-    to_the_end: bool,
-    counts: &mut Counts,
-) -> Result<(), RunDifference> {
-    let [a, b, c, d] = scene.places;
-    let (mut one, mut two) = ([REQUEST; 80], [COMPLETION; 80]);
-    let (mut three, mut four) = ([REQUEST; 80], [COMPLETION; 80]);
-    let own = queues(&mut one[0..a.min(80)], &mut two[0..b.min(80)]);
-    let other = queues(&mut three[0..c.min(80)], &mut four[0..d.min(80)]);
-    let mut both = started(scene, own, other, counts);
-    both.all(scene, to_the_end)?;
-    *counts = both.counts;
-    Ok(())
 }

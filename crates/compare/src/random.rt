@@ -23,7 +23,7 @@ impl Random {
     // A number below n; 0 for n = 0.
     pub(crate) fn below(&mut self, n: u32) -> u32 {
         let x = (self.bits() >> 20) & 0xffff_ffff;
-        if n == 0 { 0 } else { x as u32 % n }
+        (x as u32).checked_rem(n).unwrap_or(0)
     }
 
     // A number from low to high.

@@ -1,93 +1,128 @@
 // What is printed.
-use crate::draw::scene::{Actor, CALLS, Scene};
-use crate::plans::{Outcome, PlanDifference, Verdicts};
-use crate::runs::RunDifference;
-use crate::scenes::{SceneDifference, Totals};
-use crate::tally::{Kind, Refusals};
-use std::io;
+use crate::admission::AdmissionDifference;
+use crate::draw::scene::{Actor, Scene};
+use crate::plans::{Outcome, PlanDifference};
+use crate::play::CallDifference;
+use crate::scenes::SceneDifference;
+use crate::tally::{Admissions, Calls, Refusals, Totals, Verdicts};
+use std::fmt;
 
 // The plan of a run, and the letter that the run's kind serves.
-fn actor(rt: &HostRuntime, name: &str, actor: &Actor) -> io::Result<()> {
-    println!(rt; "{name} for the kind of letter {}:", actor.letter)?;
-    for i in 0..20usize {
-        if i < actor.plan.count {
-            println!(rt; "{:?}", actor.plan.at(i))?;
+impl fmt::Display for Actor {
+    fn fmt<W: fmt::Write>(&self, f: &mut fmt::Formatter<W>) -> fmt::Result {
+        write!(f, "for the kind of letter {}:", self.kind.letter())?;
+        for line in &self.plan {
+            write!(f, "\n{line:?}")?;
         }
+        Ok(())
+    }
+}
+
+impl fmt::Display for Outcome {
+    fn fmt<W: fmt::Write>(&self, f: &mut fmt::Formatter<W>) -> fmt::Result {
+        write!(f, "{:?} {:?}", self.answer, self.numbers)
+    }
+}
+
+impl fmt::Display for PlanDifference {
+    fn fmt<W: fmt::Write>(&self, f: &mut fmt::Formatter<W>) -> fmt::Result {
+        let trial = &self.trial;
+        writeln!(f, "plan {:?}", trial.plan.as_slice())?;
+        writeln!(f, "result memory for {} lines", trial.memory)?;
+        writeln!(f, "library {}", self.library)?;
+        write!(f, "naive {}", self.naive)
+    }
+}
+
+impl fmt::Display for AdmissionDifference {
+    fn fmt<W: fmt::Write>(&self, f: &mut fmt::Formatter<W>) -> fmt::Result {
+        writeln!(f, "plan {}", self.actor)?;
+        writeln!(f, "library {:?}", self.library)?;
+        write!(f, "naive {:?}", self.naive)
+    }
+}
+
+impl fmt::Display for CallDifference {
+    fn fmt<W: fmt::Write>(&self, f: &mut fmt::Formatter<W>) -> fmt::Result {
+        writeln!(f, "{:?}", self.call)?;
+        writeln!(f, "library {:?}", self.library)?;
+        write!(f, "naive {:?}", self.naive)
+    }
+}
+
+// The plans of a scene, its places, and so many of its calls.
+fn scene<W: fmt::Write>(f: &mut fmt::Formatter<W>, scene: &Scene, after: usize) -> fmt::Result {
+    writeln!(f, "first run, {}", scene.actors.first)?;
+    writeln!(f, "second run, {}", scene.actors.second)?;
+    writeln!(f, "places of the queues {:?}", scene.places)?;
+    for call in scene.calls.iter().take(after) {
+        writeln!(f, "{call:?}")?;
     }
     Ok(())
 }
 
-fn outcome(rt: &HostRuntime, whose: &str, outcome: &Outcome) -> io::Result<()> {
-    println!(rt; "{whose} {:?} {:?}", outcome.answer, outcome.numbers)
-}
-
-pub(crate) fn plan_difference(rt: &HostRuntime, difference: &PlanDifference) -> io::Result<()> {
-    let trial = &difference.trial;
-    println!(rt;
-        "plan {:?}",
-        &trial.plan.bytes[0..trial.plan.length.min(460)]
-    )?;
-    println!(rt; "result memory for {} lines", trial.memory)?;
-    outcome(rt, "library", &difference.library)?;
-    outcome(rt, "naive", &difference.naive)
-}
-
-fn run_difference(rt: &HostRuntime, scene: &Scene, difference: &RunDifference) -> io::Result<()> {
-    actor(rt, "first run,", &scene.actors[0])?;
-    actor(rt, "second run,", &scene.actors[1])?;
-    println!(rt; "places of the queues {:?}", scene.places)?;
-    for i in 0..CALLS {
-        if i < difference.after {
-            println!(rt; "{:?}", scene.calls[i])?;
-        }
-    }
-    println!(rt; "{:?}", difference.call)?;
-    println!(rt; "library {:?}", difference.library)?;
-    println!(rt; "naive {:?}", difference.naive)
-}
-
-pub(crate) fn scene_difference(rt: &HostRuntime, difference: &SceneDifference) -> io::Result<()> {
-    match difference {
-        SceneDifference::Run(scene, difference) => run_difference(rt, scene, difference),
-        SceneDifference::Admission(difference) => {
-            actor(rt, "plan", &difference.actor)?;
-            println!(rt; "library {:?}", difference.library)?;
-            println!(rt; "naive {:?}", difference.naive)
+impl fmt::Display for SceneDifference {
+    fn fmt<W: fmt::Write>(&self, f: &mut fmt::Formatter<W>) -> fmt::Result {
+        match self {
+            SceneDifference::Admission(difference) => write!(f, "{difference}"),
+            SceneDifference::Call(played, difference) => {
+                scene(f, played, difference.after)?;
+                write!(f, "{difference}")
+            }
         }
     }
 }
 
-pub(crate) fn verdicts(rt: &HostRuntime, verdicts: &Verdicts) -> io::Result<()> {
-    let passing = verdicts.passing;
-    let failing = verdicts.failing;
-    let refused = verdicts.refused;
-    println!(rt; "plans: {passing} pass, {failing} fail, {refused} refused")
-}
-
-fn kind(rt: &HostRuntime, name: &str, kind: &Kind) -> io::Result<()> {
-    println!(rt;
-        "runs, {name}: {}; calls: {} tick, {} offer, {} finish, {} fetch, {} ask; {} of them with a queue of another run",
-        kind.runs, kind.ticks, kind.offers, kind.finishes, kind.fetches, kind.asks, kind.foreign
-    )
-}
-
-pub(crate) fn totals(rt: &HostRuntime, totals: &Totals) -> io::Result<()> {
-    println!(rt;
-        "admissions: {} granted, {} refused",
-        totals.admissions.granted, totals.admissions.refused
-    )?;
-    kind(rt, "no server", &totals.kinds[0])?;
-    kind(rt, "polling", &totals.kinds[1])?;
-    kind(rt, "deferrable", &totals.kinds[2])?;
-    kind(rt, "sporadic", &totals.kinds[3])?;
-    println!(rt; "slices added to the latest of 16: {}", totals.merged)
-}
-
-pub(crate) fn refusals(rt: &HostRuntime, refusals: &Refusals) -> io::Result<()> {
-    for number in 0..19usize {
-        if refusals.met[number] > 0 {
-            println!(rt; "refusal {number}: {}", refusals.met[number])?;
-        }
+impl fmt::Display for Verdicts {
+    fn fmt<W: fmt::Write>(&self, f: &mut fmt::Formatter<W>) -> fmt::Result {
+        let (passing, failing, refused) = (self.passing, self.failing, self.refused);
+        write!(
+            f,
+            "plans: {passing} pass, {failing} fail, {refused} refused"
+        )
     }
-    Ok(())
+}
+
+impl fmt::Display for Admissions {
+    fn fmt<W: fmt::Write>(&self, f: &mut fmt::Formatter<W>) -> fmt::Result {
+        write!(
+            f,
+            "admissions: {} granted, {} refused",
+            self.granted, self.refused
+        )
+    }
+}
+
+impl fmt::Display for Calls {
+    fn fmt<W: fmt::Write>(&self, f: &mut fmt::Formatter<W>) -> fmt::Result {
+        write!(
+            f,
+            "{}; calls: {} tick, {} offer, {} finish, {} fetch, {} ask; {} of them with a queue of another run",
+            self.runs, self.ticks, self.offers, self.finishes, self.fetches, self.asks, self.foreign
+        )
+    }
+}
+
+impl fmt::Display for Refusals {
+    fn fmt<W: fmt::Write>(&self, f: &mut fmt::Formatter<W>) -> fmt::Result {
+        for (number, met) in self.met.iter().enumerate() {
+            if *met > 0 {
+                writeln!(f, "refusal {number}: {met}")?;
+            }
+        }
+        Ok(())
+    }
+}
+
+// All but the verdicts, which are shown before.
+impl fmt::Display for Totals {
+    fn fmt<W: fmt::Write>(&self, f: &mut fmt::Formatter<W>) -> fmt::Result {
+        writeln!(f, "{}", self.admissions)?;
+        writeln!(f, "runs, no server: {}", self.runs.without)?;
+        writeln!(f, "runs, polling: {}", self.runs.polling)?;
+        writeln!(f, "runs, deferrable: {}", self.runs.deferrable)?;
+        writeln!(f, "runs, sporadic: {}", self.runs.sporadic)?;
+        writeln!(f, "slices added to the latest of 16: {}", self.merged)?;
+        write!(f, "{}", self.refusals)
+    }
 }

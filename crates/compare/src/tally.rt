@@ -1,14 +1,31 @@
 // What was compared, counted.
-use crate::answer::Answer;
+use crate::answer::Answered;
 use crate::draw::calls::{Call, Op};
+use crate::kind::Kind;
+use crate::refused::Refused;
 
-fn count(n: &mut u64) {
+pub(crate) fn count(n: &mut u64) {
     *n = n.saturating_add(1);
 }
 
+// How many plans passed, failed and were refused.
+#[derive(Clone, Copy, Default)]
+pub(crate) struct Verdicts {
+    pub(crate) passing: u64,
+    pub(crate) failing: u64,
+    pub(crate) refused: u64,
+}
+
+// How many plans were admitted, and how many were not.
+#[derive(Clone, Copy, Default)]
+pub(crate) struct Admissions {
+    pub(crate) granted: u64,
+    pub(crate) refused: u64,
+}
+
 // Runs of one kind of server.
-#[derive(Clone, Copy)]
-pub(crate) struct Kind {
+#[derive(Clone, Copy, Default)]
+pub(crate) struct Calls {
     pub(crate) runs: u64,
     pub(crate) ticks: u64,
     pub(crate) offers: u64,
@@ -19,30 +36,7 @@ pub(crate) struct Kind {
     pub(crate) foreign: u64,
 }
 
-impl Kind {
-    pub(crate) fn none() -> Kind {
-        Kind {
-            runs: 0,
-            ticks: 0,
-            offers: 0,
-            finishes: 0,
-            fetches: 0,
-            asks: 0,
-            foreign: 0,
-        }
-    }
-
-    // The counts of one more run.
-    pub(crate) fn add(&mut self, run: &Kind) {
-        self.runs = self.runs.saturating_add(1);
-        self.ticks = self.ticks.saturating_add(run.ticks);
-        self.offers = self.offers.saturating_add(run.offers);
-        self.finishes = self.finishes.saturating_add(run.finishes);
-        self.fetches = self.fetches.saturating_add(run.fetches);
-        self.asks = self.asks.saturating_add(run.asks);
-        self.foreign = self.foreign.saturating_add(run.foreign);
-    }
-
+impl Calls {
     pub(crate) fn note(&mut self, call: &Call) {
         match call.op {
             Op::Tick => count(&mut self.ticks),
@@ -50,35 +44,64 @@ impl Kind {
             Op::Finish(_) => count(&mut self.finishes),
             Op::Fetch => count(&mut self.fetches),
             Op::Ask(_) => count(&mut self.asks),
-            _ => return,
+            Op::Queue(_) => return,
         }
-        if call.other_requests || call.other_completions {
+        if call.is_foreign() {
             count(&mut self.foreign);
         }
     }
 }
 
+// The runs of plans without servers, and of those of each kind.
+#[derive(Clone, Copy, Default)]
+pub(crate) struct Runs {
+    pub(crate) without: Calls,
+    pub(crate) polling: Calls,
+    pub(crate) deferrable: Calls,
+    pub(crate) sporadic: Calls,
+}
+
+impl Runs {
+    pub(crate) fn of(&mut self, served: Option<Kind>) -> &mut Calls {
+        match served {
+            None => &mut self.without,
+            Some(Kind::Polling) => &mut self.polling,
+            Some(Kind::Deferrable) => &mut self.deferrable,
+            Some(Kind::Sporadic) => &mut self.sporadic,
+        }
+    }
+}
+
 // How often each refusal number was met.
-#[derive(Clone, Copy)]
+#[derive(Clone, Copy, Default)]
 pub(crate) struct Refusals {
     pub(crate) met: [u64; 19],
 }
 
 impl Refusals {
-    pub(crate) fn none() -> Refusals {
-        Refusals { met: [0; 19] }
-    }
-
-    pub(crate) fn note(&mut self, number: u32) {
-        let place = number as usize;
-        if place < 19 {
-            self.met[place] = self.met[place].saturating_add(1);
+    pub(crate) fn note(&mut self, refused: Refused) {
+        if let Some(met) = self.met.get_mut(refused.0 as usize) {
+            count(met);
         }
     }
+}
 
-    pub(crate) fn note_answer(&mut self, answer: &Answer) {
-        if let Answer::Refused(number) = answer {
-            self.note(*number);
+#[derive(Clone, Copy, Default)]
+pub(crate) struct Totals {
+    pub(crate) verdicts: Verdicts,
+    pub(crate) admissions: Admissions,
+    pub(crate) runs: Runs,
+    // how often a slice was added to the latest of 16 pending entries
+    pub(crate) merged: u64,
+    pub(crate) refusals: Refusals,
+}
+
+impl Totals {
+    // A call on a run of a plan, and its answer.
+    pub(crate) fn note(&mut self, served: Option<Kind>, call: &Call, answer: &Answered) {
+        self.runs.of(served).note(call);
+        if let Err(refused) = answer {
+            self.refusals.note(*refused);
         }
     }
 }

@@ -1,5 +1,6 @@
 // Damage to the bytes of a plan.
-use crate::draw::drawn::{Drawn, letter};
+use crate::draw::drawn::Drawn;
+use crate::kind::Kind;
 use crate::random::Random;
 
 // A number at or next to one of its bounds.
@@ -10,34 +11,34 @@ fn near(random: &mut Random, low: u32, high: u32) -> u32 {
         2 => low,
         3 => high,
         4 => high.saturating_add(1),
-        _ => 4_294_967_295,
+        _ => u32::MAX,
     }
 }
 
 // Puts a number at or next to a bound into a field.
 fn field(random: &mut Random, plan: &mut Drawn, record: usize) {
-    let work = plan.read(record, 4);
-    let period = plan.read(record, 8);
+    let work = plan.number(record, 4).unwrap_or(0);
+    let period = plan.number(record, 8).unwrap_or(0);
     match random.below(4) {
-        0 => plan.number(record, 4, near(random, 1, period)),
-        1 => plan.number(record, 8, near(random, 1, 1_000_000)),
-        2 => plan.number(record, 12, near(random, work, period)),
-        _ => plan.number(record, 16, near(random, 1, period.saturating_sub(1))),
+        0 => plan.put(record, 4, near(random, 1, period)),
+        1 => plan.put(record, 8, near(random, 1, 1_000_000)),
+        2 => plan.put(record, 12, near(random, work, period)),
+        _ => plan.put(record, 16, near(random, 1, period.saturating_sub(1))),
     }
 }
 
 // Makes a record a server.
-fn server(plan: &mut Drawn, record: usize, letter: u8) {
-    plan.byte(record.saturating_mul(20), letter);
-    plan.number(record, 12, 0);
-    plan.number(record, 16, 0);
+fn server(plan: &mut Drawn, record: usize, kind: Kind) {
+    plan.put_byte(record.saturating_mul(20), kind.letter());
+    plan.put(record, 12, 0);
+    plan.put(record, 16, 0);
 }
 
-// Servers of a letter in five or more of the records, where there are so many.
-fn servers(random: &mut Random, plan: &mut Drawn, letter: u8) {
-    for record in 0..22usize {
-        if record < plan.length / 20 && !random.one_in(3) {
-            server(plan, record, letter);
+// Servers of a kind in five or more of the records, where there are so many.
+fn servers(random: &mut Random, plan: &mut Drawn, kind: Kind) {
+    for record in 0..(plan.len() / 20).min(22) {
+        if !random.one_in(3) {
+            server(plan, record, kind);
         }
     }
 }
@@ -49,7 +50,7 @@ fn more_lines(random: &mut Random, plan: &mut Drawn) {
         plan.add(b'T', [1, period, period, 0]);
     }
     if random.one_in(2) {
-        plan.length = 420;
+        plan.set_len(420);
     }
 }
 
@@ -57,9 +58,9 @@ fn more_lines(random: &mut Random, plan: &mut Drawn) {
 fn length(random: &mut Random, plan: &mut Drawn) {
     let change = random.within(1, 19) as usize;
     if random.one_in(2) {
-        plan.length = plan.length.saturating_sub(change);
+        plan.set_len(plan.len().saturating_sub(change));
     } else {
-        plan.length = plan.length.saturating_add(change).min(460);
+        plan.set_len(plan.len().saturating_add(change));
     }
 }
 
@@ -68,16 +69,16 @@ pub(crate) fn damage(random: &mut Random, plan: &mut Drawn, most: u32) {
     let record = random.below(most) as usize;
     let at = record.saturating_mul(20);
     let any = (random.below(256) & 255) as u8;
-    let letter = letter(random);
+    let kind = Kind::drawn(random);
     match random.below(12) {
-        0 => plan.byte(at, any),
-        1 => plan.byte(at.saturating_add(random.within(1, 3) as usize), any),
+        0 => plan.put_byte(at, any),
+        1 => plan.put_byte(at.saturating_add(random.within(1, 3) as usize), any),
         2 => length(random, plan),
         3 => more_lines(random, plan),
-        4 => servers(random, plan, b'S'),
-        5 => servers(random, plan, letter),
-        6 => server(plan, record, letter),
-        7 => plan.byte(at.saturating_add(random.below(20) as usize), any),
+        4 => servers(random, plan, Kind::Sporadic),
+        5 => servers(random, plan, kind),
+        6 => server(plan, record, kind),
+        7 => plan.put_byte(at.saturating_add(random.below(20) as usize), any),
         _ => field(random, plan, record),
     }
 }

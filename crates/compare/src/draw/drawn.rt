@@ -1,18 +1,23 @@
 // Drawn plans, as bytes.
+use crate::kind::Kind;
 use crate::random::Random;
 
-// The bytes of a plan: 20 a record, for up to 22 records, and up to 19 more.
+// The most bytes of a plan: 20 a record, for up to 22 records, and up to 19 more.
+const MOST: usize = 460;
+
+// The bytes of a plan.
+// Damage writes behind the plan's end, and a later damage may lengthen the plan over that: so a length, and no ArrayVec.
 #[derive(Clone, Copy)]
 pub(crate) struct Drawn {
-    pub(crate) bytes: [u8; 460],
-    pub(crate) length: usize,
+    bytes: [u8; MOST],
+    length: usize,
 }
 
 // Of which sort a plan is drawn.
 #[derive(Clone, Copy)]
 pub(crate) struct Sort {
-    // the letter of its servers
-    pub(crate) letter: u8,
+    // the kind of its servers
+    pub(crate) kind: Kind,
     pub(crate) lines: u32,
     // how many of its lines are servers at most
     pub(crate) servers: u32,
@@ -22,40 +27,42 @@ pub(crate) struct Sort {
 impl Drawn {
     pub(crate) fn empty() -> Drawn {
         Drawn {
-            bytes: [0; 460],
+            bytes: [0; MOST],
             length: 0,
         }
     }
 
-    pub(crate) fn byte(&mut self, at: usize, value: u8) {
-        if at < 460 {
-            self.bytes[at] = value;
+    pub(crate) fn as_slice(&self) -> &[u8] {
+        &self.bytes[..self.length.min(MOST)]
+    }
+
+    pub(crate) fn len(&self) -> usize {
+        self.length
+    }
+
+    pub(crate) fn set_len(&mut self, length: usize) {
+        self.length = length.min(MOST);
+    }
+
+    pub(crate) fn put_byte(&mut self, at: usize, value: u8) {
+        if let Some(byte) = self.bytes.get_mut(at) {
+            *byte = value;
         }
     }
 
     // Writes a number from byte k of a record on, least byte first.
-    pub(crate) fn number(&mut self, record: usize, k: usize, value: u32) {
+    pub(crate) fn put(&mut self, record: usize, k: usize, value: u32) {
         let at = record.saturating_mul(20).saturating_add(k);
-        let [a, b, c, d] = value.to_le_bytes();
-        self.byte(at, a);
-        self.byte(at.saturating_add(1), b);
-        self.byte(at.saturating_add(2), c);
-        self.byte(at.saturating_add(3), d);
+        if at <= MOST - 4 {
+            self.bytes[at..at + 4].copy_from_slice(&value.to_le_bytes());
+        }
     }
 
-    // The number from byte k of a record on.
-    pub(crate) fn read(&self, record: usize, k: usize) -> u32 {
+    // The number from byte k of a record on; none behind the memory's end.
+    pub(crate) fn number(&self, record: usize, k: usize) -> Option<u32> {
         let at = record.saturating_mul(20).saturating_add(k);
-        if at < 456 {
-            u32::from_le_bytes([
-                self.bytes[at],
-                self.bytes[at + 1],
-                self.bytes[at + 2],
-                self.bytes[at + 3],
-            ])
-        } else {
-            0
-        }
+        let bytes = self.bytes.get(at..)?.first_chunk::<4>()?;
+        Some(u32::from_le_bytes(*bytes))
     }
 
     // A plan has room for 22 records; past that nothing is written.
@@ -65,12 +72,12 @@ impl Drawn {
             return;
         }
         let [work, period, deadline, first] = numbers;
-        self.byte(record.saturating_mul(20), letter);
-        self.number(record, 4, work);
-        self.number(record, 8, period);
-        self.number(record, 12, deadline);
-        self.number(record, 16, first);
-        self.length = record.saturating_mul(20).saturating_add(20);
+        self.put_byte(record * 20, letter);
+        self.put(record, 4, work);
+        self.put(record, 8, period);
+        self.put(record, 12, deadline);
+        self.put(record, 16, first);
+        self.length = record * 20 + 20;
     }
 }
 
@@ -84,7 +91,7 @@ fn add_line(random: &mut Random, plan: &mut Drawn, sort: &Sort, server: bool) {
     };
     let work = random.within(1, most.max(1));
     if server {
-        return plan.add(sort.letter, [work, period, 0, 0]);
+        return plan.add(sort.kind.letter(), [work, period, 0, 0]);
     }
     let deadline = if random.one_in(3) {
         random.within(work, period)
@@ -107,12 +114,4 @@ pub(crate) fn valid(random: &mut Random, sort: &Sort) -> Drawn {
         add_line(random, &mut plan, sort, server);
     }
     plan
-}
-
-pub(crate) fn letter(random: &mut Random) -> u8 {
-    match random.below(3) {
-        0 => b'P',
-        1 => b'D',
-        _ => b'S',
-    }
 }

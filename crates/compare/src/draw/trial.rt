@@ -1,7 +1,15 @@
 // Drawn whole plans, with memory for the result.
 use crate::draw::damage::damage;
-use crate::draw::drawn::{Drawn, Sort, letter, valid};
+use crate::draw::drawn::{Drawn, Sort, valid};
+use crate::kind::Kind;
 use crate::random::Random;
+
+// How long the periods of a plan are.
+#[derive(Clone, Copy, PartialEq, Eq)]
+pub(crate) enum Periods {
+    Short,
+    Long,
+}
 
 // A plan with its result memory of so many numbers, of 24.
 #[derive(Clone, Copy)]
@@ -10,27 +18,29 @@ pub(crate) struct Trial {
     pub(crate) memory: usize,
 }
 
-// A plan of few lines with long periods; or one with short periods, which is damaged in every other case.
-pub(crate) fn drawn_trial(random: &mut Random, long: bool) -> Trial {
-    let lines = if long {
-        random.within(1, 5)
-    } else {
-        random.below(21)
+fn sort(random: &mut Random, periods: Periods) -> Sort {
+    let lines = match periods {
+        Periods::Short => random.below(21),
+        Periods::Long => random.within(1, 5),
     };
-    let sort = Sort {
-        letter: letter(random),
+    Sort {
+        kind: Kind::drawn(random),
         lines,
         servers: random.below(5),
-        longest: if long {
-            1_000_000
-        } else {
-            random.within(1, 120)
+        longest: match periods {
+            Periods::Short => random.within(1, 120),
+            Periods::Long => 1_000_000,
         },
-    };
+    }
+}
+
+// A plan of few lines with long periods; or one with short periods, which is damaged in every other case.
+pub(crate) fn drawn_trial(random: &mut Random, periods: Periods) -> Trial {
+    let sort = sort(random, periods);
     let mut plan = valid(random, &sort);
-    if !long && random.one_in(2) {
+    if periods == Periods::Short && random.one_in(2) {
         for _ in 0..random.within(1, 3) {
-            damage(random, &mut plan, lines.saturating_add(2));
+            damage(random, &mut plan, sort.lines.saturating_add(2));
         }
     }
     let memory = if random.one_in(4) {

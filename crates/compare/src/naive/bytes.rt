@@ -1,140 +1,110 @@
 // Reading the bytes of a plan.
-use crate::naive::lines::{PlainLine, PlainPlan};
+ghost use Rattle.std.specs.Prelude.{◌≤◌};
 
-// A refusal by its number, with the record and the byte that it names.
-#[derive(Clone, Copy, PartialEq, Eq, Debug)]
-pub(crate) struct Place {
-    pub(crate) number: u32,
-    pub(crate) record: u32,
-    pub(crate) byte: u32,
-}
+use crate::kind::Kind;
+use crate::naive::lines::{PlainLine, PlainPlan, PlainServer, PlainTask};
+use crate::naive::refusal::Refusal;
+use crate::refused::Place;
 
-// The byte at k of the record at a place from 0; 0 where there is none.
-fn byte(bytes: &[u8], record: usize, k: usize) -> u8 {
-    let at = record.saturating_mul(20).saturating_add(k);
-    if at < bytes.len() { bytes[at] } else { 0 }
-}
+// A refusal of a record, with the byte that it names.
+struct Fault(Refusal, u32);
 
 // The number of four bytes from k on, least byte first.
-fn number(bytes: &[u8], record: usize, k: usize) -> u64 {
-    let mut sum = 0u64;
-    for i in 0..4usize {
-        let digit = byte(bytes, record, k.saturating_add(3 - i));
-        sum = sum.wrapping_mul(256).wrapping_add(digit as u64);
-    }
-    sum
+fn number(record: &[u8; 20], k: usize) -> u64
+    requires { k ≤ 16 }
+{
+    let bytes = [record[k], record[k + 1], record[k + 2], record[k + 3]];
+    u32::from_le_bytes(bytes) as u64
 }
 
-fn line(bytes: &[u8], record: usize) -> PlainLine {
-    PlainLine {
-        letter: byte(bytes, record, 0),
-        work: number(bytes, record, 4),
-        period: number(bytes, record, 8),
-        deadline: number(bytes, record, 12),
-        first: number(bytes, record, 16),
+// The kind of a server by its letter, none for a task.
+fn kind(letter: u8) -> Result<Option<Kind>, Fault> {
+    match letter {
+        b'T' => Ok(None),
+        b'P' => Ok(Some(Kind::Polling)),
+        b'D' => Ok(Some(Kind::Deferrable)),
+        b'S' => Ok(Some(Kind::Sporadic)),
+        _ => Err(Fault(Refusal::Letter, 0)),
     }
 }
 
-// The place of the first of the bytes 1 to 3 that is not zero; 0 where all are.
-fn not_zero(bytes: &[u8], record: usize) -> u32 {
+fn task(task: PlainTask) -> Result<PlainLine, Fault> {
+    if task.deadline < task.work || task.deadline > task.period {
+        return Err(Fault(Refusal::Deadline, 12));
+    }
+    if task.first >= task.period {
+        return Err(Fault(Refusal::Deadline, 16));
+    }
+    Ok(PlainLine::Task(task))
+}
+
+// The line of a record, or the record's own fault.
+fn line(record: &[u8; 20]) -> Result<PlainLine, Fault> {
+    let kind = kind(record[0])?;
     for k in 1..4u32 {
-        if byte(bytes, record, k as usize) != 0 {
-            return k;
+        if record[k as usize] != 0 {
+            return Err(Fault(Refusal::Zeros, k));
         }
     }
-    0
+    let (work, period) = (number(record, 4), number(record, 8));
+    let (deadline, first) = (number(record, 12), number(record, 16));
+    if period < 1 || period > 1_000_000 {
+        return Err(Fault(Refusal::Period, 8));
+    }
+    if work < 1 || work > period {
+        return Err(Fault(Refusal::Work, 4));
+    }
+    let Some(kind) = kind else {
+        return task(PlainTask {
+            work,
+            period,
+            deadline,
+            first,
+        });
+    };
+    if deadline != 0 {
+        return Err(Fault(Refusal::Deadline, 12));
+    }
+    if first != 0 {
+        return Err(Fault(Refusal::Deadline, 16));
+    }
+    Ok(PlainLine::Server(PlainServer {
+        kind,
+        budget: work,
+        period,
+    }))
 }
 
-// The byte of the deadline or first arrival that is out of bounds; 0 where both are in them.
-fn late_field(line: &PlainLine) -> u32 {
-    if line.is_task() {
-        if line.deadline < line.work || line.deadline > line.period {
-            return 12;
+// Adds a line to a plan, or answers the fault that it has there.
+fn add(plan: &mut PlainPlan, line: PlainLine) -> Result<(), Fault> {
+    if plan.is_full() {
+        return Err(Fault(Refusal::Full, 0));
+    }
+    if let Some(kind) = line.kind() {
+        let mut kinds = plan.iter().filter_map(|line| line.kind());
+        if kinds.count() >= 4 {
+            return Err(Fault(Refusal::Servers, 0));
         }
-        if line.first >= line.period { 16 } else { 0 }
-    } else if line.deadline != 0 {
-        12
-    } else if line.first != 0 {
-        16
-    } else {
-        0
-    }
-}
-
-// The number and the byte of a record's own fault; number 0 where it has none.
-fn own_fault(bytes: &[u8], record: usize) -> (u32, u32) {
-    let line = line(bytes, record);
-    if !line.is_task() && !line.is_server() {
-        return (2, 0);
-    }
-    let zero = not_zero(bytes, record);
-    if zero != 0 {
-        return (3, zero);
-    }
-    if line.period < 1 || line.period > 1_000_000 {
-        return (4, 8);
-    }
-    if line.work < 1 || line.work > line.period {
-        return (5, 4);
-    }
-    let late = late_field(&line);
-    if late != 0 { (6, late) } else { (0, 0) }
-}
-
-// The number of the fault that a record without one of its own has in its plan; 0 where it has none.
-fn fault_in(plan: &PlainPlan, new: &PlainLine) -> u32 {
-    if plan.count >= 20 {
-        return 11;
-    }
-    let mut servers = 0u32;
-    let mut foreign = false;
-    for i in 0..20usize {
-        let line = plan.at(i);
-        if line.is_server() {
-            servers = servers.saturating_add(1);
-            foreign = foreign || line.letter != new.letter;
+        let mut kinds = plan.iter().filter_map(|line| line.kind());
+        if kinds.any(|other| other != kind) {
+            return Err(Fault(Refusal::Foreign, 0));
         }
     }
-    if !new.is_server() {
-        0
-    } else if servers >= 4 {
-        12
-    } else if foreign {
-        13
-    } else {
-        0
-    }
+    plan.push(line);
+    Ok(())
 }
 
 // The lines of a whole plan, or its first fault.
 pub(crate) fn read(bytes: &[u8]) -> Result<PlainPlan, Place> {
-    let mut plan = PlainPlan::empty();
-    if bytes.len() % 20 != 0 {
-        return Err(Place {
-            number: 1,
-            record: 0,
-            byte: 0,
-        });
+    let (records, rest) = bytes.as_chunks::<20>();
+    if !rest.is_empty() {
+        return Err(Refusal::Length.at(0, 0));
     }
-    let mut row = 0u32;
-    for record in 0..bytes.len() / 20 {
-        row = row.saturating_add(1);
-        let (mut number, byte) = own_fault(bytes, record);
-        let new = line(bytes, record);
-        if number == 0 {
-            number = fault_in(&plan, &new);
-        }
-        if number != 0 {
-            return Err(Place {
-                number,
-                record: row,
-                byte,
-            });
-        }
-        if plan.count < 20 {
-            plan.lines[plan.count] = new;
-            plan.count += 1;
-        }
+    let mut plan = PlainPlan::new();
+    for (number, record) in (1u32..).zip(records) {
+        line(record)
+            .and_then(|line| add(&mut plan, line))
+            .map_err(|Fault(refusal, byte)| refusal.at(number, byte))?;
     }
     Ok(plan)
 }

@@ -1,56 +1,66 @@
 // The lines of a plan as a plain table.
+use crate::kind::Kind;
+use arrayvec::ArrayVec;
 
-// A line by the fields of its record. A server's budget is its work, and its last two fields are 0.
-#[derive(Clone, Copy, Debug)]
-pub(crate) struct PlainLine {
-    pub(crate) letter: u8,
+#[derive(Clone, Copy, Default, Debug)]
+pub(crate) struct PlainTask {
     pub(crate) work: u64,
     pub(crate) period: u64,
     pub(crate) deadline: u64,
     pub(crate) first: u64,
 }
 
+#[derive(Clone, Copy, Debug)]
+pub(crate) struct PlainServer {
+    pub(crate) kind: Kind,
+    pub(crate) budget: u64,
+    pub(crate) period: u64,
+}
+
+#[derive(Clone, Copy, Debug)]
+pub(crate) enum PlainLine {
+    Task(PlainTask),
+    Server(PlainServer),
+}
+
+pub(crate) type PlainPlan = ArrayVec<PlainLine, 20>;
+
+// What stands in a table where no line is.
+impl Default for PlainLine {
+    fn default() -> PlainLine {
+        PlainLine::Task(PlainTask::default())
+    }
+}
+
 impl PlainLine {
-    // What stands where there is no line.
-    pub(crate) fn none() -> PlainLine {
-        PlainLine {
-            letter: 0,
-            work: 0,
-            period: 0,
-            deadline: 0,
-            first: 0,
+    // The kind of a server.
+    pub(crate) fn kind(&self) -> Option<Kind> {
+        match self {
+            PlainLine::Task(_) => None,
+            PlainLine::Server(server) => Some(server.kind),
         }
     }
 
-    pub(crate) fn is_task(&self) -> bool {
-        self.letter == b'T'
-    }
-
-    pub(crate) fn is_server(&self) -> bool {
-        self.letter == b'P' || self.letter == b'D' || self.letter == b'S'
-    }
-}
-
-#[derive(Clone, Copy)]
-pub(crate) struct PlainPlan {
-    pub(crate) lines: [PlainLine; 20],
-    pub(crate) count: usize,
-}
-
-impl PlainPlan {
-    pub(crate) fn empty() -> PlainPlan {
-        PlainPlan {
-            lines: [PlainLine::none(); 20],
-            count: 0,
+    // The work of a task, the budget of a server.
+    pub(crate) fn work(&self) -> u64 {
+        match self {
+            PlainLine::Task(task) => task.work,
+            PlainLine::Server(server) => server.budget,
         }
     }
 
-    // The line at a place from 0; none past the last.
-    pub(crate) fn at(&self, place: usize) -> PlainLine {
-        if place < self.count && place < 20 {
-            self.lines[place]
-        } else {
-            PlainLine::none()
+    pub(crate) fn period(&self) -> u64 {
+        match self {
+            PlainLine::Task(task) => task.period,
+            PlainLine::Server(server) => server.period,
+        }
+    }
+
+    // The time within which the line has to pass.
+    pub(crate) fn limit(&self) -> u64 {
+        match self {
+            PlainLine::Task(task) => task.deadline,
+            PlainLine::Server(server) => server.period,
         }
     }
 }

@@ -1,67 +1,57 @@
-// What a run keeps of a line: a task's work and next arrival, or a server by its letter.
+// What a run keeps of a line.
 use crate::naive::lines::PlainLine;
-use crate::naive::sporadic::Pieces;
+use crate::naive::server_row::ServerRow;
+use crate::naive::task_row::TaskRow;
 
-#[derive(Clone, Copy)]
-pub(crate) struct Row {
-    pub(crate) line: PlainLine,
-    pub(crate) unfinished: u64,
-    pub(crate) next: u64,
-    pub(crate) held: u64,
-    pub(crate) pieces: Pieces,
+#[derive(Drop)]
+pub(crate) enum Row {
+    Task(TaskRow),
+    Server(ServerRow),
+}
+
+// What stands in a table where no line is.
+impl Default for Row {
+    fn default() -> Row {
+        Row::Task(TaskRow::default())
+    }
 }
 
 impl Row {
     // The line in a run that has just been started.
-    pub(crate) fn new(line: PlainLine) -> Row {
-        Row {
-            line,
-            unfinished: 0,
-            next: line.first,
-            held: if line.letter == b'P' { 0 } else { line.work },
-            pieces: Pieces::none(),
+    pub(crate) fn new(line: &PlainLine) -> Row {
+        match line {
+            PlainLine::Task(task) => Row::Task(TaskRow::new(*task)),
+            PlainLine::Server(server) => Row::Server(ServerRow::new(*server)),
         }
     }
 
-    // A job arrives, if one does at this time.
-    pub(crate) fn arrive(&mut self, time: u64) {
-        if self.line.is_task() && self.next == time {
-            self.unfinished = self.unfinished.saturating_add(self.line.work);
-            self.next = self.next.saturating_add(self.line.period);
-        }
-    }
-
-    // The start of a tick, to a server.
-    pub(crate) fn start(&mut self, tick: u64, wanted: bool) {
-        let period = self.line.period;
-        let turn = period != 0 && tick % period == 0;
-        if self.line.letter == b'P' {
-            if !wanted {
-                self.held = 0;
-            } else if turn {
-                self.held = self.line.work;
+    // An arrival, or the start of a tick to a server. Answers whether the line is ready.
+    pub(crate) fn begin(&mut self, tick: u64, wanted: bool) -> bool {
+        match self {
+            Row::Task(task) => {
+                task.arrive(tick);
+                task.unfinished > 0
             }
-        }
-        if self.line.letter == b'D' && turn {
-            self.held = self.line.work;
-        }
-        if self.line.letter == b'S' {
-            let more = self.pieces.replenish(tick, period);
-            self.held = self.held.saturating_add(more);
+            Row::Server(server) => {
+                server.start(tick, wanted);
+                wanted && server.held > 0
+            }
         }
     }
 
     // The end of a tick, to a server.
     pub(crate) fn end(&mut self, tick: u64, ran: bool) {
-        if ran {
-            self.held = self.held.saturating_sub(1);
+        match self {
+            Row::Task(_) => {}
+            Row::Server(server) => server.end(tick, ran),
         }
-        if self.line.letter == b'S' {
-            if ran {
-                self.pieces.serve(tick, self.held, self.line.period);
-            } else {
-                self.pieces.close(self.line.period);
-            }
+    }
+
+    // How often a slice was added to the latest of 16 pending entries.
+    pub(crate) fn merged(&self) -> u64 {
+        match self {
+            Row::Task(_) => 0,
+            Row::Server(server) => server.pieces.merged,
         }
     }
 }
