@@ -1,7 +1,7 @@
 // The runs of a scene: every answer of both sides.
 use crate::answer::{Answered, Ended, Wait};
 use crate::draw::calls::{Call, Op, QueueOp};
-use crate::draw::scene::{Actor, CALLS, Scene};
+use crate::draw::scene::{CALLS, Scene};
 use crate::kind::Kind;
 use crate::library::any_run::AnyRun;
 use crate::naive::list::List;
@@ -20,11 +20,15 @@ pub(crate) struct CallDifference {
     pub(crate) naive: Answered,
 }
 
+type LibrarySide<'a> = Side<AnyRun, Queue<'a, Request>, Queue<'a, Completion>>;
+
+type NaiveSide = Side<PlainRun, List<Wait>, List<Ended>>;
+
 // Two sides of the same two runs.
 #[derive(Drop)]
 struct Both<'a> {
-    library: Side<AnyRun, Queue<'a, Request>, Queue<'a, Completion>>,
-    naive: Side<PlainRun, List<Wait>, List<Ended>>,
+    library: LibrarySide<'a>,
+    naive: NaiveSide,
     served: Pair<Option<Kind>>,
 }
 
@@ -103,15 +107,24 @@ fn lent<'a, T: Copy + Drop>(memory: &'a mut [T; 80], places: usize, item: T) -> 
     queue
 }
 
-fn library_run(
-    actor: &Actor,
-    requests: &mut Queue<'_, Request>,
-    completions: &mut Queue<'_, Completion>,
-) -> AnyRun {
-    AnyRun::start(actor.kind, actor.drawn.as_slice(), requests, completions)
+fn library_side<'a>(
+    scene: &Scene,
+    mut requests: Pair<Queue<'a, Request>>,
+    mut completions: Pair<Queue<'a, Completion>>,
+) -> LibrarySide<'a> {
+    let Pair { first, second } = &scene.actors;
+    let runs = Pair {
+        first: first.run(&mut requests.first, &mut completions.first),
+        second: second.run(&mut requests.second, &mut completions.second),
+    };
+    Side {
+        runs,
+        requests,
+        completions,
+    }
 }
 
-fn naive_side(scene: &Scene) -> Side<PlainRun, List<Wait>, List<Ended>> {
+fn naive_side(scene: &Scene) -> NaiveSide {
     let Pair { first, second } = scene.places;
     Side {
         runs: Pair {
@@ -130,46 +143,40 @@ fn naive_side(scene: &Scene) -> Side<PlainRun, List<Wait>, List<Ended>> {
 }
 
 impl Totals {
+    // One more run, with what its servers merged.
+    fn note_run(&mut self, served: Option<Kind>, run: &PlainRun) {
+        count(&mut self.runs.of(served).runs);
+        self.merged = self.merged.saturating_add(run.merged());
+    }
+
     // The two runs of a scene, through all its calls; before them the first run is ticked to the end of time if so asked.
     pub(crate) fn play(&mut self, scene: &Scene, to_the_end: bool) -> Result<(), CallDifference> {
         let Pair { first, second } = scene.places;
         let (mut one, mut two) = ([REQUEST; 80], [COMPLETION; 80]);
         let (mut three, mut four) = ([REQUEST; 80], [COMPLETION; 80]);
-        let mut requests = Pair {
+        let requests = Pair {
             first: lent(&mut one, first.requests, REQUEST),
             second: lent(&mut three, second.requests, REQUEST),
         };
-        let mut completions = Pair {
+        let completions = Pair {
             first: lent(&mut two, first.completions, COMPLETION),
             second: lent(&mut four, second.completions, COMPLETION),
         };
-        let Pair { first, second } = &scene.actors;
-        let runs = Pair {
-            first: library_run(first, &mut requests.first, &mut completions.first),
-            second: library_run(second, &mut requests.second, &mut completions.second),
-        };
         let mut both = Both {
-            library: Side {
-                runs,
-                requests,
-                completions,
-            },
+            library: library_side(scene, requests, completions),
             naive: naive_side(scene),
             served: Pair {
-                first: first.served(),
-                second: second.served(),
+                first: scene.actors.first.served(),
+                second: scene.actors.second.served(),
             },
         };
         if to_the_end {
             both.ticks(self)?;
         }
         both.calls(self, scene)?;
-        both.state(self, Which::First)?;
-        both.state(self, Which::Second)?;
         for run in [Which::First, Which::Second] {
-            count(&mut self.runs.of(*both.served.of(run)).runs);
-            let merged = both.naive.runs.of(run).merged();
-            self.merged = self.merged.saturating_add(merged);
+            both.state(self, run)?;
+            self.note_run(*both.served.of(run), both.naive.runs.of(run));
         }
         Ok(())
     }

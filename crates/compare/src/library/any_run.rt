@@ -1,6 +1,7 @@
 // Runs of the library, and calls on them.
 use crate::answer::{Answer, Answered, Ended, Wait};
 use crate::draw::calls::{Op, QueueOp};
+use crate::draw::scene::Actor;
 use crate::kind::Kind;
 use crate::library::whole_plan::admitted;
 use crate::side::Machine;
@@ -34,14 +35,15 @@ fn started<S: Server + Copy>(
     Run::start(plan, requests, completions)
 }
 
-impl AnyRun {
-    pub(crate) fn start(
-        kind: Kind,
-        plan: &[u8],
+impl Actor {
+    // A run of its plan, for its kind.
+    pub(crate) fn run(
+        &self,
         requests: &mut Queue<'_, Request>,
         completions: &mut Queue<'_, Completion>,
     ) -> AnyRun {
-        match kind {
+        let plan = self.drawn.as_slice();
+        match self.kind {
             Kind::Polling => AnyRun::Polling(started(plan, requests, completions)),
             Kind::Deferrable => AnyRun::Deferrable(started(plan, requests, completions)),
             Kind::Sporadic => AnyRun::Sporadic(started(plan, requests, completions)),

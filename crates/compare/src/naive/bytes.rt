@@ -41,8 +41,8 @@ fn task(task: PlainTask) -> Result<PlainLine, Fault> {
 // The line of a record, or the record's own fault.
 fn line(record: &[u8; 20]) -> Result<PlainLine, Fault> {
     let kind = kind(record[0])?;
-    for k in 1..4u32 {
-        if record[k as usize] != 0 {
+    for (k, byte) in (1u32..).zip(&record[1..4]) {
+        if *byte != 0 {
             return Err(Fault(Refusal::Zeros, k));
         }
     }
@@ -81,12 +81,14 @@ fn add(plan: &mut PlainPlan, line: PlainLine) -> Result<(), Fault> {
         return Err(Fault(Refusal::Full, 0));
     }
     if let Some(kind) = line.kind() {
-        let mut kinds = plan.iter().filter_map(|line| line.kind());
-        if kinds.count() >= 4 {
+        if plan.iter().filter_map(|line| line.kind()).count() >= 4 {
             return Err(Fault(Refusal::Servers, 0));
         }
-        let mut kinds = plan.iter().filter_map(|line| line.kind());
-        if kinds.any(|other| other != kind) {
+        if plan
+            .iter()
+            .filter_map(|line| line.kind())
+            .any(|other| other != kind)
+        {
             return Err(Fault(Refusal::Foreign, 0));
         }
     }
