@@ -1,4 +1,4 @@
-// The kinds of servers.
+// The kinds of servers. An enum beside the library's, of which the second implementation takes nothing.
 use crate::random::Random;
 
 #[derive(Clone, Copy, PartialEq, Eq, Debug)]

@@ -14,7 +14,7 @@ use server::kind::Server;
 use server::polling::Polling;
 use server::sporadic::Sporadic;
 
-// A run for one of the kinds.
+// A run for one of the kinds. An enum, with a match to start and one to call: no function may hand out a dyn.
 #[derive(Drop)]
 pub(crate) enum AnyRun {
     Polling(Run<Polling>),
