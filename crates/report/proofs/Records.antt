@@ -26,6 +26,15 @@ chunk_at bs (suc i) (suc n) d below =
 pub record_of : (bs : List ℕ) (records : List (List ℕ)) (i n : ℕ) (d : List ℕ) → records ≡ first_chunks 20 n bs → i < n → get_or records i d ≡ record_at bs i
 record_of bs records i n d front below = ap (λ xs. get_or xs i d) front ∙ chunk_at bs i n d below
 
+-- its letter
+pub letter_at : (bs : List ℕ) (i n : ℕ) (d : List ℕ) → i < n → get_or (get_or (first_chunks 20 n bs) i d) 0 0 ≡ get_or bs (20 * i) 0
+letter_at bs i n d below =
+    let start : 20 * i + 0 ≡ 20 * i = omega arith in
+    ap (λ xs. get_or xs 0 0) (chunk_at bs i n d below)
+    ∙ get_or-take (20 * i + 20 - 20 * i) (drop (20 * i) bs) 0 0 (omega arith)
+    ∙ get_or-drop (20 * i) bs 0 0
+    ∙ ap (λ k. get_or bs k 0) start
+
 -- the letter of the first server, from the record at place i on
 letters_from : (bs : List ℕ) (i n : ℕ) → server_from bs i n ≡ unwrap_or (find is_server (letters (first_chunks 20 n (drop (20 * i) bs)))) 80
 letters_from bs i zero = refl

@@ -1,26 +1,61 @@
 -- The rows of a text, one after the other.
-use Rattle.std.proofs.Common.{◌≡◌, ℕ, suc, ◌+◌, ◌*◌, ◌<◌, ◌≤◌, Bool, true, false, cond, eqb, Option, Some, None, refl, List, [], ◌∷◌, ◌++◌, length, get_or, take, drop, sym, ap, ◌∙◌, add-one}
-use Rattle.std.proofs.lemmas.List.{drop_more, drop_all}
+use Rattle.std.proofs.Common.{◌≡◌, ℕ, suc, ◌+◌, ◌*◌, ◌/◌, ◌<◌, ◌≤◌, Bool, true, false, cond, eqb, Option, Some, None, refl, List, [], ◌∷◌, ◌++◌, length, get_or, take, sym, ap, ◌∙◌, add-one, ◌⊎◌, ⊎_elim, arith}
+use Rattle.std.specs.Simd.{first_chunks}
 use Rattle.text.specs.Written.{room}
 use Rattle.text.proofs.Cuts.{added_twice}
 use Rattle.std.specs.List.{position, position_from}
 use Rattle.std.proofs.lemmas.Iterator.Adapters.{position_from-zero}
 use Rattle.analysis.specs.Verdicts.{Verdict, passes, fails, verdict_from}
 use Rattle.report.specs.Rows.{row, rows}
+use Rattle.report.proofs.Records.{letter_at}
 
-module _ (bs ts : List ℕ) where
-  -- the row of line i + 1 goes over from what is left to the text
-  pub rows_more : (before after : List ℕ) (i : ℕ) → i < length ts → after ≡ take room (before ++ row (i + 1) (get_or bs (20 * i) 0) (get_or ts i 0))
-      → take room (before ++ rows bs i (drop i ts)) ≡ take room (after ++ rows bs (i + 1) (drop (i + 1) ts))
-  rows_more before after i within is =
-      let rest = rows bs (i + 1) (drop (i + 1) ts) in
-      let this = row (i + 1) (get_or bs (20 * i) 0) (get_or ts i 0) in
-      let split : rows bs i (drop i ts) ≡ this ++ rest =
-      ap (rows bs i) (drop_more ts i 0 within) ∙ ap (λ n. row n (get_or bs (20 * i) 0) (get_or ts i 0) ++ rows bs n (drop (i + 1) ts)) (sym (add-one i)) in
-      ap (λ xs. take room (before ++ xs)) split ∙ sym (added_twice before this rest) ∙ ap (λ xs. take room (xs ++ rest)) (sym is)
+-- what is left of the records and the times from place i on: a record for each time, and its letter as it stands in the bytes
+pub record Left (bs : List ℕ) (i : ℕ) (records : List (List ℕ)) (times : List ℕ) : Type 0 where
+  pub enough : length times ≤ length records
+  pub letter : (k : ℕ) → k < length records → get_or (get_or records k []) 0 0 ≡ get_or bs (20 * (i + k)) 0
 
-  pub rows_end : (i : ℕ) → length ts ≤ i → rows bs i (drop i ts) ≡ []
-  rows_end i past = ap (rows bs i) (drop_all i ts past)
+-- at first all of them are
+pub left_all : (bs ts : List ℕ) (records : List (List ℕ)) (i : ℕ) → i ≡ 0 → records ≡ first_chunks 20 (length bs / 20) bs → length records ≡ length bs / 20 → 20 * length ts ≤ length bs → Left bs i records ts
+left_all bs ts records i none front many whole =
+    record {
+      enough = omega arith;
+      letter = λ k below.
+          let place : 20 * k ≡ 20 * (i + k) = omega arith in
+          ap (λ xs. get_or (get_or xs k []) 0 0) front ∙ letter_at bs k (length bs / 20) [] (omega arith) ∙ ap (λ p. get_or bs p 0) place;
+    }
+
+module _ (bs before : List ℕ) (i : ℕ) (records : List (List ℕ)) (ts : List ℕ) (left : Left bs i records ts) where
+  -- then one record and one time less, and their row
+  pub one_less : (rs : List (List ℕ)) (r rest : List ℕ) (t n : ℕ) → n ≡ i + 1 → records ≡ r ∷ rs → ts ≡ t ∷ rest → Left bs n rs rest
+  one_less rs r rest t n next first then =
+      record {
+        enough = omega (arith, ap length first, ap length then, left.enough);
+        letter = λ k below.
+            let place : 20 * (i + suc k) ≡ 20 * (n + k) = omega arith in
+            ap (λ xs. get_or (get_or xs (suc k) []) 0 0) (sym first) ∙ left.letter (suc k) (omega (arith, ap length first)) ∙ ap (λ p. get_or bs p 0) place;
+      }
+
+  pub row_added : (after : List ℕ) (rs : List (List ℕ)) (r rest : List ℕ) (t n j : ℕ) → n ≡ i + 1 → j ≡ i → records ≡ r ∷ rs → ts ≡ t ∷ rest
+      → after ≡ take room (before ++ row (j + 1) (get_or r 0 0) t) → take room (after ++ rows bs n rest) ≡ take room (before ++ rows bs i ts)
+  row_added after rs r rest t n j next here first then is =
+      let number : j + 1 ≡ suc i = omega arith in
+      let same : n ≡ suc i = omega arith in
+      let place : 20 * (i + 0) ≡ 20 * i = omega arith in
+      let letter : get_or r 0 0 ≡ get_or bs (20 * i) 0 =
+      ap (λ xs. get_or (get_or xs 0 []) 0 0) (sym first) ∙ left.letter 0 (omega (arith, ap length first)) ∙ ap (λ p. get_or bs p 0) place in
+      let this = row (suc i) (get_or bs (20 * i) 0) t in
+      ap (λ xs. take room (xs ++ rows bs n rest)) (is ∙ ap (λ m. take room (before ++ row m (get_or r 0 0) t)) number ∙ ap (λ l. take room (before ++ row (suc i) l t)) letter)
+      ∙ added_twice before this (rows bs n rest)
+      ∙ ap (λ m. take room (before ++ (this ++ rows bs m rest))) same
+      ∙ ap (λ xs. take room (before ++ rows bs i xs)) (sym then)
+
+  -- at last there is no time
+  pub rows_end : length records ≡ 0 ⊎ length ts ≡ 0 → rows bs i ts ≡ []
+  rows_end none = empty ts (⊎_elim (λ (a : length records ≡ 0). omega (arith, left.enough)) (λ (b : length ts ≡ 0). omega arith) none)
+    where
+      empty : (xs : List ℕ) → length xs ≡ 0 → rows bs i xs ≡ []
+      empty [] is = refl
+      empty (x ∷ xs) is = absurd (omega arith)
 
 -- the verdict that names the line at this place, if there is one
 abbrev pub naming : Option ℕ → Verdict

@@ -29,6 +29,7 @@ fn push_row(text: &mut Text, number: usize, letter: u8, time: u32)
     text.push(b'\n');
 }
 
+// Not by the fault's own Display: `write!` promises nothing of the text after an error, and this cannot fail.
 pub(crate) fn push_fault(text: &mut Text, fault: &Fault)
     ensures { written text.new ≡ take room (written text.old ++ fault_row (number_of fault.now.refusal) fault.now.«record» fault.now.byte) }
 {
@@ -64,7 +65,8 @@ pub(crate) fn push_rows(text: &mut Text, plan: &[u8], times: &[u32])
     requires { 20 * length times.now ≤ length plan.now }
     ensures { written text.new ≡ take room (written text.old ++ rows plan.now 0 times.now) }
 {
-    for (i, time) in times.iter().enumerate() {
-        push_row(text, i + 1, plan[20 * i], *time);
+    let (records, _) = plan.as_chunks::<20>();
+    for (i, (record, time)) in records.iter().zip(times).enumerate() {
+        push_row(text, i + 1, record[0], *time);
     }
 }
