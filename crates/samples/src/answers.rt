@@ -10,10 +10,7 @@ use std::process::Abort;
 pub(crate) type Place = (u32, u32, u32);
 
 pub(crate) fn told<T: Drop>(answer: Result<T, Fault>) -> Result<T, Place> {
-    match answer {
-        Ok(value) => Ok(value),
-        Err(fault) => Err((fault.refusal.number(), fault.record, fault.byte)),
-    }
+    answer.map_err(|fault| (fault.refusal.number(), fault.record, fault.byte))
 }
 
 pub(crate) fn add<S: Server, const N: usize>(
@@ -36,6 +33,20 @@ pub(crate) fn adds<S: Server, const N: usize>(
 // What the numbers are before times are written.
 const UNTOUCHED: u32 = 77;
 
+// What writes times answers so, and the numbers are these then.
+fn writes<const N: usize, F: FnOnce(&mut [u32]) -> Result<u32, Fault>>(
+    rt: &impl Abort,
+    write: F,
+    answer: Result<u32, Place>,
+    numbers: [u32; N],
+)
+    requires { F.IsAlwaysCallable write }
+{
+    let mut written = [UNTOUCHED; N];
+    let told = told(write(&mut written));
+    assert_eq!(rt; (told, written), (answer, numbers));
+}
+
 // The times of a draft are answered so, and the numbers are these then.
 pub(crate) fn times_are<S: Server, const N: usize>(
     rt: &impl Abort,
@@ -43,9 +54,7 @@ pub(crate) fn times_are<S: Server, const N: usize>(
     answer: Result<u32, Place>,
     numbers: [u32; N],
 ) {
-    let mut written = [UNTOUCHED; N];
-    let told = told(draft.times(&mut written));
-    assert_eq!(rt; (told, written), (answer, numbers));
+    writes(rt, |out| draft.times(out), answer, numbers);
 }
 
 // The same of a whole plan.
@@ -55,9 +64,7 @@ pub(crate) fn plan_times_are<const N: usize>(
     answer: Result<u32, Place>,
     numbers: [u32; N],
 ) {
-    let mut written = [UNTOUCHED; N];
-    let told = told(plan_times(plan, &mut written));
-    assert_eq!(rt; (told, written), (answer, numbers));
+    writes(rt, |out| plan_times(plan, out), answer, numbers);
 }
 
 // The lines pass, or they are refused by this number and line.
@@ -66,9 +73,8 @@ pub(crate) fn verdict_is(
     verdict: Result<(), LineFault>,
     expected: Result<(), (u32, u32)>,
 ) {
-    let told = match verdict {
-        Ok(()) => Ok(()),
-        Err(fault) => Err((fault.refusal.number(), fault.line)),
-    };
-    assert_eq!(rt; told, expected);
+    assert_eq!(rt;
+        verdict.map_err(|fault| (fault.refusal.number(), fault.line)),
+        expected
+    );
 }

@@ -2,24 +2,18 @@
 use crate::answers::plan_times_are;
 use crate::build::{repeated, server, task};
 use crate::texts::{lines_show, shows};
+use std::array;
 use std::test::Fail;
 
 // Tasks of 50,000 ticks, with periods from 999,981 to 1,000,000.
 fn near_a_million() -> [[u8; 20]; 20] {
-    let mut all = [task(50_000, 1_000_000); 20];
-    for i in 0..19 {
-        all[i] = task(50_000, 999_981 + i as u32);
-    }
-    all
+    array::from_fn(|i| 999_981 + i as u32).map(|period| task(50_000, period))
 }
 
 #[test]
 fn twenty_lines_with_long_periods(rt: HostRuntime) -> Result<(), Fail> {
     let plan = near_a_million().concat(rt.alloc())?;
-    let mut expected = [0; 20];
-    for i in 0..19 {
-        expected[i] = 50_000 * (i as u32 + 1);
-    }
+    let expected: [u32; 20] = array::from_fn(|i| if i < 19 { 50_000 * (i as u32 + 1) } else { 0 });
     plan_times_are(&rt, plan.as_slice(), Ok(20), expected);
     Ok(())
 }

@@ -1,4 +1,5 @@
 // A text of bounded length.
+use std::array;
 use text::Text;
 
 #[test]
@@ -23,9 +24,6 @@ fn what_does_not_fit_is_cut_off(rt: HostRuntime) {
     text.push_number(98u32);
     text.push(b'x');
     text.push_all(b"yz");
-    let mut expected = [b'9'; 320];
-    for i in 0..319 {
-        expected[i] = b'0' + (i % 10) as u8;
-    }
+    let expected: [u8; 320] = array::from_fn(|i| b'0' + (i % 10) as u8);
     assert_eq!(rt; text.as_bytes(), expected.as_slice());
 }

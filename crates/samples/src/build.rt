@@ -2,23 +2,14 @@
 use crate::answers::add;
 use analysis::draft::Draft;
 use server::kind::Server;
+use std::array;
 use std::test::Fail;
 
 // The 20 bytes of a letter and four numbers.
 pub(crate) fn record(letter: u8, numbers: [u32; 4]) -> [u8; 20] {
-    let [work, period, deadline, first] = numbers;
-    let words = [
-        [letter, 0, 0, 0],
-        work.to_le_bytes(),
-        period.to_le_bytes(),
-        deadline.to_le_bytes(),
-        first.to_le_bytes(),
-    ];
-    let mut bytes = [0; 20];
-    for i in 0..20 {
-        bytes[i] = words[i / 4][i % 4];
-    }
-    bytes
+    let [work, period, deadline, first] = numbers.map(u32::to_le_bytes);
+    let words = [[letter, 0, 0, 0], work, period, deadline, first];
+    <[u8; 20]>::try_from(words.as_flattened()).unwrap()
 }
 
 // A task whose deadline is its period and whose first job arrives at 0.
@@ -39,11 +30,7 @@ pub(crate) fn marked(bytes: [u8; 20], marks: [u8; 3]) -> [u8; 20] {
 
 // The first N bytes of the record over and over.
 pub(crate) fn repeated<const N: usize>(bytes: [u8; 20]) -> [u8; N] {
-    let mut all = [0; N];
-    for i in 0..N {
-        all[i] = bytes[i % 20];
-    }
-    all
+    array::from_fn(|i| bytes[i % 20])
 }
 
 // A plan that passes with a server of any kind.

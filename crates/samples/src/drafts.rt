@@ -14,10 +14,7 @@ fn a_refused_record_changes_nothing(rt: HostRuntime) {
     let mut draft = Draft::<Polling>::new();
     adds(&rt, &mut draft, task(1, 4), Ok(1));
     adds(&rt, &mut draft, task(2, 8), Ok(2));
-    for (bytes, (number, byte)) in single() {
-        adds(&rt, &mut draft, bytes, Err((number, 3, byte)));
-    }
-    for (bytes, (number, byte)) in several() {
+    for (bytes, (number, byte)) in single().into_iter().chain(several()) {
         adds(&rt, &mut draft, bytes, Err((number, 3, byte)));
     }
     adds(&rt, &mut draft, repeated::<19>(task(1, 4)), Err((1, 0, 0)));

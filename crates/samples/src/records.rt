@@ -10,10 +10,7 @@ use std::test::Fail;
 
 // The number and the byte of a refusal.
 fn read(answer: Result<Line, RecordFault>) -> Result<Line, (u32, u32)> {
-    match answer {
-        Ok(line) => Ok(line),
-        Err(fault) => Err((fault.refusal.number(), fault.byte)),
-    }
+    answer.map_err(|fault| (fault.refusal.number(), fault.byte))
 }
 
 // The four numbers of a line's record.
@@ -52,10 +49,7 @@ fn fault_is<const N: usize>(rt: &impl Abort, bytes: [u8; N], place: Option<(u32,
 
 #[test]
 fn faults_are_named_by_number_and_byte(rt: HostRuntime) {
-    for (bytes, place) in single() {
-        fault_is(&rt, bytes, Some(place));
-    }
-    for (bytes, place) in several() {
+    for (bytes, place) in single().into_iter().chain(several()) {
         fault_is(&rt, bytes, Some(place));
     }
 }
@@ -73,7 +67,7 @@ fn a_record_has_20_bytes(rt: HostRuntime) {
 #[test]
 fn servers_have_three_letters(rt: HostRuntime) {
     for letter in 0..=255u8 {
-        let expected = letter == b'P' || letter == b'D' || letter == b'S';
+        let expected = matches!(letter, b'P' | b'D' | b'S');
         assert_eq!(rt; (letter, is_server(letter)), (letter, expected));
     }
 }
