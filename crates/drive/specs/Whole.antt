@@ -13,6 +13,6 @@ driven_lines k ticks amount places None = 0
 driven_lines k ticks amount places (Some ls) = sum_turns (length ls) amount (started {k = k} ls (min places 64) 64) ticks
 
 -- the same for a whole plan, by its kind
-unfoldable pub driven : List ℕ → (ticks amount places : ℕ) → ℕ
+abbrev pub driven : List ℕ → (ticks amount places : ℕ) → ℕ
 driven bs ticks amount places =
     driven_lines (kind_of (plan_letter bs)) ticks amount places (admitted_lines (kind_of (plan_letter bs)) bs)

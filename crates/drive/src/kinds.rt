@@ -19,7 +19,7 @@ pub(crate) fn drive_for<S: Server + Copy>(bytes: &[u8], ticks: u32, amount: u32,
     let Some(plan) = admitted_plan::<S>(bytes) else {
         return 0;
     };
-    let lines = plan.len() as u32;
+    let lines = plan.lines().len() as u32;
     let mut waiting = [NO_REQUEST; 64];
     let mut ended = [NO_COMPLETION; 64];
     let requests = Queue::new(&mut waiting[..places.min(64) as usize]);

@@ -18,7 +18,7 @@ use server::sporadic::Sporadic;
 // Admits a plan, for the kind of its first server, and runs it for so many turns. At most so many requests wait, 64 where more
 // are asked for, and up to 64 completions. Turn i offers the amount to line i modulo the count of lines + 1 (line 0 is none),
 // makes a tick and fetches a completion. It answers a sum over all answers, or 0 where the plan is refused or does not pass.
-#[tactic(auto, unfolding(crate::specs::Whole::driven))]
+// C takes one number, so there is no Option or Result of it.
 #[unsafe(no_mangle)]
 pub extern "C" fn drive(plan: &[u8], ticks: u32, amount: u32, places: u32) -> u64
     ensures { result ≡ driven plan.now ticks amount places }

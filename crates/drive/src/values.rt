@@ -1,4 +1,4 @@
-// What an answer counts in the sum: a number for each, and where a call is refused the number of the refusal.
+// What an answer counts in the sum for C: a number for each, and where a call is refused the number of the refusal.
 ghost use Rattle.std.specs.Prelude.{◌≡◌, ◌^◌, ◌<◌};
 ghost use Rattle.run.specs.Answers.{reply, tick_reply};
 ghost use Rattle.drive.specs.Turns.{offer_value, tick_value, fetch_value};
