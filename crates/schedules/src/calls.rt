@@ -1,5 +1,8 @@
 // The calls of a run and their answers as plain values.
-use run::items::Request;
+use run::answers::Ticked;
+use run::items::{Completion, Request};
+use run::refusal::RunRefusal;
+use run::report::LineReport;
 
 #[derive(Clone, Copy)]
 pub(crate) enum Call {
@@ -29,6 +32,33 @@ pub(crate) enum Answer {
     ServerHas(u32, u32, u64),
     // the refusal's number
     Refused(u32),
+}
+
+impl From<Ticked> for Answer {
+    fn from(ticked: Ticked) -> Answer {
+        Answer::Ticked(ticked.number, ticked.line, ticked.ready)
+    }
+}
+
+impl From<Completion> for Answer {
+    fn from(c: Completion) -> Answer {
+        Answer::Completed(c.line, c.number, c.ticks, c.early)
+    }
+}
+
+impl From<LineReport> for Answer {
+    fn from(report: LineReport) -> Answer {
+        match report {
+            LineReport::Task { unfinished, next } => Answer::TaskHas(unfinished, next),
+            LineReport::Server { held, waits, needs } => Answer::ServerHas(held, waits, needs),
+        }
+    }
+}
+
+impl From<RunRefusal> for Answer {
+    fn from(refusal: RunRefusal) -> Answer {
+        Answer::Refused(refusal.number())
+    }
 }
 
 pub(crate) type Step = (Call, Answer);

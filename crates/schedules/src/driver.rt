@@ -7,7 +7,6 @@ use plan::line::Line;
 use queue::Queue;
 use run::items::{Completion, Request};
 use run::refusal::RunRefusal;
-use run::report::LineReport;
 use run::session::Session;
 use server::kind::Server;
 use server::sporadic::Sporadic;
@@ -20,22 +19,13 @@ fn granted<S: Server + Copy>(
 ) -> Result<Answer, RunRefusal> {
     let answer = match call {
         Call::Offer(line, amount) => Answer::Number(session.offer(line, amount)?),
-        Call::Tick => {
-            let ticked = session.tick()?;
-            Answer::Ticked(ticked.number, ticked.line, ticked.ready)
-        }
+        Call::Tick => session.tick()?.into(),
         Call::Finish(line) => {
             session.finish(line)?;
             Answer::Finished
         }
-        Call::Fetch => match session.fetch() {
-            Some(c) => Answer::Completed(c.line, c.number, c.ticks, c.early),
-            None => Answer::NoneWaits,
-        },
-        Call::Ask(line) => match session.ask(line)? {
-            LineReport::Task { unfinished, next } => Answer::TaskHas(unfinished, next),
-            LineReport::Server { held, waits, needs } => Answer::ServerHas(held, waits, needs),
-        },
+        Call::Fetch => session.fetch().map_or(Answer::NoneWaits, Answer::from),
+        Call::Ask(line) => session.ask(line)?.into(),
         Call::Put(request) => {
             session
                 .requests
@@ -70,9 +60,7 @@ pub(crate) fn follows<S: Server + Copy>(
     steps: &[Step],
 ) {
     for (i, (call, expected)) in steps.iter().enumerate() {
-        let answer = granted(session, *call).unwrap_or_else(|refusal| Answer::Refused(
-            refusal.number(),
-        ));
+        let answer = granted(session, *call).unwrap_or_else(Answer::from);
         assert_eq!(rt; (i, answer), (i, *expected));
     }
 }
