@@ -11,6 +11,7 @@ use std::io::{Read, Write};
 const TAKEN: usize = 440;
 
 // Reads until the buffer is full or the input ends, and answers how many bytes were read.
+// Not `take(440)` and `read_to_end`: that fills a Vec, and this program has no heap. A read gives at least one byte before the end.
 fn fill(rt: &HostRuntime, buffer: &mut [u8]) -> io::Result<usize>
     ensures { IfOk result (λ n. n ≤ length buffer.old) }
 {
