@@ -1,8 +1,7 @@
 -- The kind by which a whole plan is read, and the times of its lines.
-use Rattle.std.proofs.Common.{◌≡◌, ℕ, cond, leb, List, ◌++◌, length, drop, Result, sym, ap}
+use Rattle.std.proofs.Common.{◌≡◌, ℕ, cond, leb, List, ◌++◌, length, drop, sym, ap}
 use Rattle.server.specs.Kind.{Kind}
-use Rattle.plan.specs.Answers.{Answer, granted, refused, answer}
-use Rattle.plan.specs.declared.fault.Fault.{Fault}
+use Rattle.plan.specs.Answers.{granted, refused}
 use Rattle.plan.specs.declared.line.Line.{Line}
 use Rattle.analysis.specs.Times.{times, timed, written}
 use Rattle.analysis.proofs.Sweeps.{times_length}
@@ -20,9 +19,3 @@ filled_written k ls out = ap (λ n. cond (leb n (length out)) (times k ls ++ dro
 pub times_by : (bs : List ℕ) (letter : ℕ) → letter ≡ plan_letter bs → plan_times bs ≡ times_of (kind_of letter) (plan_for (kind_of letter) bs)
 unfolding plan_times
 times_by bs letter is = ap (λ l. times_of (kind_of l) (plan_for (kind_of l) bs)) (sym is)
-
--- what was answered and written by a kind's times, as those of the whole plan
-pub as_whole : (bs out after : List ℕ) (r : Result ℕ Fault) (a : Answer (List ℕ)) → plan_times bs ≡ a
-    → record { answered : answer r ≡ counted a (length out); after : after ≡ filled a out }
-    → record { answered : answer r ≡ counted (plan_times bs) (length out); after : after ≡ filled (plan_times bs) out }
-as_whole bs out after r a is e = rw is e

@@ -1,5 +1,5 @@
 use Rattle.std.proofs.Common.{rules}
-use Rattle.std.proofs.lemmas.List.{take_all, take_more}
+use Rattle.std.proofs.lemmas.List.{take_more}
 use Rattle.text.proofs.Cuts.{none_added, added_twice}
 use Rattle.text.proofs.buffer.Text.push_all.Goals as goal
 
@@ -8,6 +8,3 @@ loop-byte-init c = search (rules, none_added)
 
 pub loop-byte-preserved : goal.loop-byte-preserved
 loop-byte-preserved c = search (rules, take_more, added_twice)
-
-pub returns : goal.returns
-returns c = search (rules, take_all)
