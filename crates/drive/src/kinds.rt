@@ -13,7 +13,7 @@ use server::kind::Server;
 
 // Admits a plan for a kind, starts its run and makes the turns.
 pub(crate) fn drive_for<S: Server + Copy>(bytes: &[u8], ticks: u32, amount: u32, places: u32) -> u64
-    requires { SessionFitsInMemory S.row S.Server }
+    requires { SessionFitsInMemory S.row }
     ensures { result ≡ driven_lines S.Server.kind ticks amount places (admitted_lines S.Server.kind bytes.now) }
 {
     let Some(plan) = admitted_plan::<S>(bytes) else {

@@ -84,7 +84,7 @@ fn calls<S: Server + Copy>(
 
 // The run of the plan, if it is admitted.
 fn play<S: Server + Copy>(setup: &Setup, lines: &mut Lines<'_>, out: &mut Out) -> Result<(), Stop>
-    requires { SessionFitsInMemory S.row S.Server }
+    requires { SessionFitsInMemory S.row }
 {
     let Some(plan) = admitted_plan::<S>(setup.records.as_bytes()) else {
         return Ok(());

@@ -1,6 +1,6 @@
 -- A change of each row, one after the other.
 use Rattle.std.proofs.Common.{◌≡◌, ℕ, suc, ◌+◌, ◌<◌, ◌≤◌, List, [], ◌∷◌, ◌++◌, map, length, get_or, take, drop, set, sym, refl, ap, ◌∙◌, ⊎_elim, append_assoc, add-zero, arith}
-use Rattle.std.proofs.lemmas.List.{take_more, drop_more, set_at, get_or_at, take_at, take_all, take-append-drop, drop_all, append-nil, length-take-le, length-append, length-map, get_or-map, map-set, set_past, set-get_or, take-map}
+use Rattle.std.proofs.lemmas.List.{take_more, drop_more, set_at, get_or_at, take_at, take_all, take-append-drop, drop_all, append-nil, length-take-le, length-append, length-map, get_or-map, map-set, set_past, take-map}
 use Rattle.std.proofs.lemmas.Bool.{cases_lt}
 use Rattle.run.specs.Rows.{lined}
 
@@ -67,13 +67,6 @@ module _ {A B : Type 0} (v : B → A) (f : ℕ → A → A) (old : List B) where
       (λ (past : length now ≤ i).
       ap (map v) (set_past now i new past) ∙ before ∙ done_past f (map v old) i (omega arith) ∙ sym (done_past f (map v old) (i + 1) (omega arith)))
       (cases_lt i (length now))
-
-  -- a row that its change leaves as it is
-  pub seen_kept : (now : List B) (i : ℕ) (row : B) → map v now ≡ done_to f i (map v old) → row ≡ get_or now i row
-      → f (i + 1) (v (get_or now i row)) ≡ v (get_or now i row) → map v now ≡ done_to f (i + 1) (map v old)
-  seen_kept now i row before read same =
-      ap (map v) (sym (set-get_or now i row) ∙ ap (set now i) (sym read))
-      ∙ seen_more now i row row before read (ap v read ∙ sym same ∙ ap (λ r. f (i + 1) (v r)) (sym read))
 
   pub seen_all : (now : List B) (n : ℕ) → map v now ≡ done_to f n (map v old) → map v (take n now) ≡ lined f 1 (map v (take n old))
   seen_all now n all = sym (take-map v n now) ∙ ap (take n) all ∙ done_all f (map v old) n ∙ ap (lined f 1) (take-map v n old)

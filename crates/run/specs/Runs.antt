@@ -1,5 +1,4 @@
 -- A run and its two queues as a machine.
-use Rattle.std.specs.Prelude.{map, take}
 use Rattle.server.specs.declared.kind.Server.{Ghosts}
 use Rattle.queue.specs.Items.{items, room}
 use Rattle.queue.specs.declared.bounded.Queue.{Queue}
@@ -7,13 +6,13 @@ use Rattle.run.specs.declared.items.Completion.{Completion}
 use Rattle.run.specs.declared.items.Request.{Request}
 use Rattle.run.specs.declared.run.Run.{Run}
 use Rattle.run.specs.Machine.{Machine}
-use Rattle.run.specs.Views.{view}
+use Rattle.run.specs.Views.{views}
 
 -- the state of a run with these queues, its servers by their meaning g
-abbrev pub machine : {S : Type 0} (g : Ghosts S) → Run S g → Queue Request → Queue Completion → Machine g.kind
+abbrev pub machine : {S : Type 0} (g : Ghosts S) → Run S → Queue Request → Queue Completion → Machine g.kind
 machine g r requests completions = record {
   time = r.time;
-  rows = map (view g) (take r.count r.rows);
+  rows = views g r.rows;
   offers = r.offers;
   waiting = items requests;
   waiting_room = room requests;

@@ -9,10 +9,10 @@ use Rattle.run.specs.Machine.{Machine}
 use Rattle.run.specs.Runs.{machine}
 
 -- the state of a session, its servers by their meaning g
-abbrev pub played : {S : Type 0} (g : Ghosts S) → Session S g → Machine g.kind
+abbrev pub played : {S : Type 0} (g : Ghosts S) → Session S → Machine g.kind
 played g s = machine g s.run s.requests s.completions
 
 -- a session is no larger than memory; a function that makes one for a type that its caller chooses asks for this.
 -- The lifetime of its queues is of no weight
-abbrev pub SessionFitsInMemory : (S : RattleType) → Ghosts S.Denot → Type 0
-SessionFitsInMemory S g = FitsInMemory (the_row static_lft S g)
+abbrev pub SessionFitsInMemory : (S : RattleType) → Type 0
+SessionFitsInMemory S = FitsInMemory (the_row static_lft S)

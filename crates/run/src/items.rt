@@ -1,7 +1,7 @@
 // What stands in the two queues of a run.
 
 // A request for irregular work on a server's line.
-#[derive(Clone, Copy)]
+#[derive(Clone, Copy, Debug, PartialEq, Eq)]
 pub struct Request {
     pub line: u32,
     // its number, counted from 1 over the run
@@ -13,10 +13,10 @@ pub struct Request {
 }
 
 // That a job or a request has ended.
-#[derive(Clone, Copy)]
+#[derive(Clone, Copy, Debug, PartialEq, Eq)]
 pub struct Completion {
     pub line: u32,
-    // the request's number; 0 for a job
+    // The request's number; 0 for a job, and no Option: the scope fixes this form, in which requests are numbered from 1.
     pub number: u32,
     // the ticks from its arrival or offer to its end
     pub ticks: u32,
@@ -25,6 +25,7 @@ pub struct Completion {
 }
 
 // What stands in the memory of a queue before its first use; nothing of it is ever seen.
+// Public constants, which callers name already: a Default beside them would say the same twice.
 pub const NO_REQUEST: Request = Request {
     line: 0,
     number: 0,

@@ -23,3 +23,18 @@ pub enum RunLine<S> {
     Task(TaskLine),
     Server(S),
 }
+
+// Stands in the places of a run that no line has taken.
+impl<S> Default for RunLine<S> {
+    ghost use Rattle.run.specs.Views.{IsUnused};
+
+    ghost is_default = { IsUnused };
+
+    fn default() -> RunLine<S> {
+        RunLine::Task(TaskLine {
+            task: Task::default(),
+            unfinished: 0,
+            next: 0,
+        })
+    }
+}

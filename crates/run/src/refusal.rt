@@ -3,7 +3,7 @@ ghost use Rattle.std.specs.Prelude.{◌≡◌};
 ghost use Rattle.run.specs.Answers.{refusal_number};
 
 // A refusal, by its number.
-#[derive(Clone, Copy)]
+#[derive(Clone, Copy, Debug, PartialEq, Eq)]
 pub enum RunRefusal {
     // no such line, or one of the wrong sort for the call
     Line = 7,
@@ -24,5 +24,13 @@ impl RunRefusal {
         ensures { result ≡ refusal_number self }
     {
         self as u32
+    }
+}
+
+impl From<RunRefusal> for u32 {
+    ghost from_gives = { λ refusal n. n ≡ refusal_number refusal };
+
+    fn from(refusal: RunRefusal) -> u32 {
+        refusal.number()
     }
 }

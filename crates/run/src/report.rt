@@ -1,6 +1,6 @@
 // What is told of a line.
 
-#[derive(Clone, Copy)]
+#[derive(Clone, Copy, Debug, PartialEq, Eq)]
 pub enum LineReport {
     // a task's unfinished work and its next arrival
     Task { unfinished: u64, next: u64 },

@@ -21,7 +21,7 @@ fn mark(wants: &mut [bool; 20], request: &Request)
     ensures { (i : ℕ) → i < 20 → slice_index_or wants.new i false ≡ (slice_index_or wants.old i false || waits_for (i + 1) request.now) }
 {
     let line = request.line as usize;
-    if request.left >= 1 && line >= 1 && line <= 20 {
+    if request.left >= 1 && (1..=20).contains(&line) {
         wants[line - 1] = true;
     }
 }

@@ -1,6 +1,4 @@
 // A run: the time, its lines, and how many requests were counted. The caller keeps the two queues.
-ghost use Rattle.std.specs.Prelude.{◌≤◌};
-
 mod ask;
 mod calls;
 mod finish;
@@ -8,14 +6,12 @@ mod lines;
 mod start;
 mod tick;
 
-use crate::line::RunLine;
+use crate::rows::Rows;
 use server::kind::Server;
 
 #[derive(Drop)]
 pub struct Run<S: Server + Copy> {
     time: u32,
-    rows: [RunLine<S>; 20],
-    count: usize,
+    rows: Rows<S>,
     offers: u32,
-    ghost few: { count ≤ 20 },
 }

@@ -1,7 +1,6 @@
 // A run with the two queues that are given with each of its calls.
 ghost use Rattle.std.specs.Prelude.{◌≡◌};
 ghost use Rattle.analysis.specs.Admission.{plan_lines};
-ghost use Rattle.analysis.specs.Growth.{Served};
 ghost use Rattle.queue.specs.Items.{room};
 ghost use Rattle.run.specs.Answers.{reply, tick_reply};
 ghost use Rattle.run.specs.Machine.{started, ticked, offered, finished, fetched, asked};
@@ -34,8 +33,8 @@ impl<'a, S: Server + Copy> Session<'a, S> {
         mut completions: Queue<'a, Completion>,
     ) -> Session<'a, S>
         ensures begun { played S.Server result ≡ started (plan_lines plan) (room requests.entry) (room completions.entry) }
-        ensures law { Served S.Server.kind (plan_lines plan) → Law S.Server.kind (plan_lines plan) (played S.Server result) }
-        ensures timing { Served S.Server.kind (plan_lines plan) → Timing S.Server.kind (plan_lines plan) (played S.Server result) }
+        ensures law { Law S.Server.kind (plan_lines plan) (played S.Server result) }
+        ensures timing { Timing S.Server.kind (plan_lines plan) (played S.Server result) }
     {
         let run = Run::start(plan, &mut requests, &mut completions);
         Session {

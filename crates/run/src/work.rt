@@ -16,17 +16,13 @@ use server::kind::Server;
 fn request_ends(worked: Option<Request>, end: u32) -> Option<Completion>
     ensures { listed result ≡ request_ends end worked }
 {
-    let request = worked?;
-    if request.left == 1 {
-        Some(Completion {
-            line: request.line,
-            number: request.number,
-            ticks: end.saturating_sub(request.offered),
-            early: false,
-        })
-    } else {
-        None
-    }
+    let request = worked.filter(|request| request.left == 1)?;
+    Some(Completion {
+        line: request.line,
+        number: request.number,
+        ticks: end.saturating_sub(request.offered),
+        early: false,
+    })
 }
 
 // The chosen line works for the tick that ends at a time: its job, or its earliest request. What ends with it, if anything.
@@ -40,10 +36,9 @@ pub(crate) fn work<S: Server + Copy>(
     ensures waiting { items requests.new ≡ row_serves (items requests.old) line (option_map (view S.Server) row) }
     ensures room { room requests.new ≡ room requests.old }
 {
-    match row {
-        None => None,
-        Some(RunLine::Task(task)) => task.ends(line, end),
-        Some(RunLine::Server(_)) => request_ends(serve(requests, line), end),
+    match row? {
+        RunLine::Task(task) => task.ends(line, end),
+        RunLine::Server(_) => request_ends(serve(requests, line), end),
     }
 }
 

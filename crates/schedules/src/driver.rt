@@ -44,7 +44,7 @@ pub(crate) fn started<'a, S: Server + Copy>(
     waiting: &'a mut [Request],
     completed: &'a mut [Completion],
 ) -> Session<'a, S>
-    requires { SessionFitsInMemory S.row S.Server }
+    requires { SessionFitsInMemory S.row }
 {
     Session::start(
         admitted(rt, lines),

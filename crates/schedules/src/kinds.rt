@@ -29,7 +29,7 @@ const BEFORE: [Step; 11] = [
 
 // After those, a run of the sample plan with a server of this kind answers so.
 fn schedule_is<S: Server + Copy>(rt: &impl Abort, letter: u8, steps: &[Step])
-    requires { SessionFitsInMemory S.row S.Server }
+    requires { SessionFitsInMemory S.row }
 {
     let mut waiting = [NO_REQUEST; 2];
     let mut completed = [NO_COMPLETION; 4];

@@ -25,11 +25,7 @@ impl TaskLine {
     pub(crate) fn ends(&self, line: u32, end: u32) -> Option<Completion>
         ensures { listed result ≡ (if nat_eq self.now.unfinished 1 then job_end line self.now.task.period self.now.next end false ∷ [] else []) }
     {
-        if self.unfinished == 1 {
-            Some(self.completion(line, end, false))
-        } else {
-            None
-        }
+        (self.unfinished == 1).then(|| self.completion(line, end, false))
     }
 
     // Whether no work is unfinished.
@@ -45,6 +41,7 @@ impl TaskLine {
         ensures unfinished { result.unfinished ≡ 0 }
         ensures next { result.next ≡ self.now.next }
     {
+        // Field by field: `..*self` does not copy into a struct with a ghost field.
         TaskLine {
             task: self.task,
             unfinished: 0,

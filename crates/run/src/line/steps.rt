@@ -1,11 +1,11 @@
 // What a tick does to one line.
-ghost use Rattle.std.specs.Prelude.{◌≡◌, ◌+◌, ◌-◌, Bool, false, if◌then◌else◌, nat_eq};
+ghost use Rattle.std.specs.Prelude.{◌≡◌, ◌+◌, ◌-◌, if◌then◌else◌, nat_eq};
 ghost use Rattle.plan.specs.Records.{Fit};
 ghost use Rattle.run.specs.Rows.{fresh, opened_by, ready_by, shut_by};
 ghost use Rattle.run.specs.Views.{view};
 
 use crate::line::{RunLine, TaskLine};
-use plan::line::{Line, ServerLine};
+use plan::line::Line;
 use server::kind::Server;
 use server::terms::ServerTerms;
 
@@ -46,19 +46,8 @@ impl<S: Server> RunLine<S> {
                 unfinished: 0,
                 next: task.first as u64,
             }),
-            Line::Server(
-                ServerLine {
-                    letter,
-                    budget,
-                    period,
-                },
-            ) => {
-                let terms = ServerTerms {
-                    letter: *letter,
-                    budget: *budget,
-                    period: *period,
-                };
-                RunLine::Server(S::make(terms))
+            Line::Server(server) => {
+                RunLine::Server(S::make(ServerTerms::try_from(*server).unwrap()))
             }
         }
     }
@@ -73,32 +62,12 @@ impl<S: Server> RunLine<S> {
         }
     }
 
-    // Whether the start of a tick can change the line.
-    pub(crate) fn opens(&self, time: u32) -> bool
-        ensures { result ≡ false → (wants : Bool) → opened_by time wants (view S.Server self.now) ≡ view S.Server self.now }
-    {
-        match self {
-            RunLine::Task(line) => line.next == time as u64,
-            RunLine::Server(_) => true,
-        }
-    }
-
     pub(crate) fn is_ready(&self, wants: bool) -> bool
         ensures { result ≡ ready_by wants (view S.Server self.now) }
     {
         match self {
             RunLine::Task(line) => line.unfinished >= 1,
             RunLine::Server(server) => wants && server.held() >= 1,
-        }
-    }
-
-    // Whether the end of a tick can change the line.
-    pub(crate) fn shuts(&self, ran: bool) -> bool
-        ensures { result ≡ false → shut_by ran (view S.Server self.now) ≡ view S.Server self.now }
-    {
-        match self {
-            RunLine::Task(_) => ran,
-            RunLine::Server(_) => true,
         }
     }
 

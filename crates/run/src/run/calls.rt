@@ -39,7 +39,7 @@ impl<S: Server + Copy> Run<S> {
         if !self.is_server(line) {
             return Err(RunRefusal::Line);
         }
-        if amount == 0 || amount > 65_535 {
+        if !(1..=65_535).contains(&amount) {
             return Err(RunRefusal::Amount);
         }
         let number = self.offers.saturating_add(1);

@@ -7,7 +7,6 @@ ghost use Rattle.run.specs.Runs.{machine};
 use crate::items::{Completion, Request};
 use crate::line::RunLine;
 use crate::refusal::RunRefusal;
-use crate::rows::put_row;
 use crate::run::Run;
 use queue::Queue;
 use server::kind::Server;
@@ -24,9 +23,7 @@ impl<S: Server + Copy> Run<S> {
         ensures answered { reply result ≡ (finished line (machine S.Server self.old requests.old completions.old)).0 }
         ensures after { machine S.Server self.new requests.new completions.new ≡ (finished line (machine S.Server self.old requests.old completions.old)).1 }
     {
-        let Some(job) = self.task(line) else {
-            return Err(RunRefusal::Line);
-        };
+        let job = self.task(line).ok_or(RunRefusal::Line)?;
         if completions.is_full() {
             return Err(RunRefusal::Completions);
         }
@@ -35,8 +32,7 @@ impl<S: Server + Copy> Run<S> {
         }
         // there is room for it
         let _ = completions.push(job.completion(line, self.time, true));
-        let count = self.count;
-        put_row(&mut self.rows, count, line, RunLine::Task(job.idle()));
+        self.rows.put(line, RunLine::Task(job.idle()));
         Ok(())
     }
 }

@@ -1,16 +1,15 @@
 // One tick of a run.
-ghost use Rattle.std.specs.Prelude.{◌≡◌, ◌<◌, false, map, length, take, nat_le};
+ghost use Rattle.std.specs.Prelude.{◌≡◌, ◌<◌, false, length, nat_le};
 ghost use Rattle.queue.specs.Items.{items, room};
 ghost use Rattle.run.specs.Answers.{tick_of, tick_reply};
 ghost use Rattle.run.specs.Machine.{ticked, advanced, tick_now};
 ghost use Rattle.run.specs.Rows.{first_ready, ready_bits};
 ghost use Rattle.run.specs.Runs.{machine};
-ghost use Rattle.run.specs.Views.{view};
+ghost use Rattle.run.specs.Views.{views};
 
 use crate::answers::Ticked;
 use crate::items::{Completion, Request};
 use crate::refusal::RunRefusal;
-use crate::rows::{first_ready, open_all, ready_bits, shut_all};
 use crate::run::Run;
 use crate::work::{note, work};
 use queue::Queue;
@@ -50,12 +49,12 @@ impl<S: Server + Copy> Run<S> {
         ensures answered { tick_of result ≡ tick_now (machine S.Server self.old requests.old completions.old) }
         ensures after { machine S.Server self.new requests.new completions.new ≡ advanced (machine S.Server self.old requests.old completions.old) }
     {
-        open_all(&mut self.rows, self.count, self.time, requests.as_slice());
+        self.rows.open(self.time, requests.as_slice());
         let ticked = self.choice(requests.as_slice());
         let row = self.row(ticked.line);
         let ended = work(row, ticked.line, self.time + 1, requests);
         note(completions, ended);
-        shut_all(&mut self.rows, self.count, ticked.line);
+        self.rows.shut(ticked.line);
         self.time += 1;
         ticked
     }
@@ -63,15 +62,13 @@ impl<S: Server + Copy> Run<S> {
     // What the tick answers whose starts are done.
     fn choice(&self, requests: &[Request]) -> Ticked
         ensures number { result.number ≡ self.now.time }
-        ensures line { result.line ≡ first_ready requests.now 1 (map (view S.Server) (take self.now.count self.now.rows)) }
-        ensures ready { result.ready ≡ ready_bits requests.now 1 (map (view S.Server) (take self.now.count self.now.rows)) }
+        ensures line { result.line ≡ first_ready requests.now 1 (views S.Server self.now.rows) }
+        ensures ready { result.ready ≡ ready_bits requests.now 1 (views S.Server self.now.rows) }
     {
-        let all = &self.rows[..];
-        let rows = &all[0..self.count];
         Ticked {
             number: self.time,
-            line: first_ready(rows, requests),
-            ready: ready_bits(rows, requests),
+            line: self.rows.first_ready(requests),
+            ready: self.rows.ready_bits(requests),
         }
     }
 }

@@ -11,10 +11,10 @@ returns g c =
     let ls = plan_lines c.args.plan in
     record {
       begun = c.begin.ensures;
-      law = λ served.
+      law =
           subst (Law g.S.Server.kind ls) (sym c.begin.ensures)
-          (law g.S.Server.kind g.met.S.Server.lawful ls (recursion_from_All Fit ls c.args.plan.plan.fit) served _ _);
-      timing = λ served.
+          (law g.S.Server.kind g.met.S.Server.lawful ls (recursion_from_All Fit ls c.args.plan.plan.fit) c.args.plan.plan.served _ _);
+      timing =
           subst (Timing g.S.Server.kind ls) (sym c.begin.ensures)
-          (timing g.S.Server.kind g.met.S.Server.lawful ls (recursion_from_All Fit ls c.args.plan.plan.fit) served _ _);
+          (timing g.S.Server.kind g.met.S.Server.lawful ls (recursion_from_All Fit ls c.args.plan.plan.fit) c.args.plan.plan.served _ _);
     }
