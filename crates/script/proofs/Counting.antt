@@ -1,6 +1,7 @@
 -- The numbers that words in a row are, one after the other.
-use Rattle.std.proofs.Common.{◌≡◌, ℕ, suc, ◌+◌, ◌-◌, ◌<◌, ◌≤◌, List, [], ◌∷◌, ◌++◌, length, take, set, Some, None, Option, sym, refl, ap, ◌∙◌, append_assoc, arith}
+use Rattle.std.proofs.Common.{◌≡◌, ℕ, suc, Bool, true, false, cond, ◌+◌, ◌-◌, ◌<◌, ◌≤◌, List, [], ◌∷◌, ◌++◌, length, take, set, Some, None, Option, sym, refl, ap, ◌∙◌, append_assoc, arith}
 use Rattle.std.proofs.lemmas.List.{append-nil, take_all, take_more_set}
+use Rattle.std.specs.Bool.{then_some}
 use Rattle.std.specs.Option.{option_map}
 use Rattle.script.specs.Words.{word}
 use Rattle.script.specs.Numbers.{number}
@@ -44,3 +45,12 @@ nothing_read bs all count =
     go : (front : List ℕ) → front ≡ [] → (o : Option (List ℕ)) → option_map (λ rest. front ++ rest) o ≡ o
     go front none None = refl
     go front none (Some rest) = ap (λ xs. Some (xs ++ rest)) none
+
+-- with no numbers it does not matter whether the line ends there
+pub none_either : (ends : Bool) (o : Option (List ℕ)) → None ≡ o → None ≡ cond ends o None
+none_either true o none = none
+none_either false o none = refl
+
+pub all_where_ends : (ends : Bool) (all : List ℕ) (o : Option (List ℕ)) → Some all ≡ o → then_some ends all ≡ cond ends o None
+all_where_ends true all o is = is
+all_where_ends false all o is = refl

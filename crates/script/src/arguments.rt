@@ -10,12 +10,9 @@ pub(crate) fn numbers<const N: usize>(line: &[u8]) -> Option<[u32; N]>
     requires { N < 5 }
     ensures { result ≡ numbers N line.now }
 {
-    if !word(line, N + 1).is_empty() {
-        return None;
-    }
     let mut all = [0; N];
     for i in 0..N {
         all[i] = number(word(line, i + 1))?;
     }
-    Some(all)
+    word(line, N + 1).is_empty().then_some(all)
 }
