@@ -23,6 +23,7 @@ use server::sporadic::Sporadic;
 pub extern "C" fn drive(plan: &[u8], ticks: u32, amount: u32, places: u32) -> u64
     ensures { result ≡ driven plan.now ticks amount places }
 {
+    // Named one by one: a closure has no type parameter, and no function may hand out a dyn.
     match plan_kind(plan) {
         ServerKind::Polling => drive_for::<Polling>(plan, ticks, amount, places),
         ServerKind::Deferrable => drive_for::<Deferrable>(plan, ticks, amount, places),

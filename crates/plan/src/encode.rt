@@ -15,7 +15,7 @@ pub fn encode(line: &Line) -> [u8; 20]
     }
 }
 
-// The record of a letter and four numbers.
+// The record of a letter and four numbers. The letter is a byte: a server's line may hold any.
 fn record_of(letter: u8, numbers: [u32; 4]) -> [u8; 20]
     ensures { result ≡ record_of letter numbers }
 {

@@ -115,7 +115,8 @@ impl From<FieldFault> for RecordFault {
     }
 }
 
-// The fault of a record in its plan. Records count from 1; 0 where the fault names none.
+// The fault of a record in its plan. Records count from 1; 0 where the fault names none, and no Option: a fault is told by
+// three numbers, and this form is fixed.
 #[derive(Clone, Copy, Debug, PartialEq, Eq)]
 pub struct Fault {
     pub refusal: Refusal,

@@ -40,7 +40,7 @@ impl Default for Line {
 }
 
 impl Line {
-    // The letter of the line's record.
+    // The letter of the line's record: a byte, as a task's line is of no ServerKind.
     pub fn letter(&self) -> u8
         ensures { result ≡ letter_of self.now }
     {
@@ -51,7 +51,7 @@ impl Line {
     }
 }
 
-// Whether this is the letter of a server.
+// Whether this is the letter of a server; it takes any byte.
 pub fn is_server(letter: u8) -> bool
     ensures { result ≡ is_server letter }
 {

@@ -11,6 +11,7 @@ use run::items::Completion;
 use run::report::LineReport;
 use text::Text;
 
+// Rows are pushed and not written by `write!`: of a text that is cut off it promises nothing.
 pub(crate) fn tick_row(ticked: &Ticked) -> Text
     ensures { written result ≡ tick_row (tick_of ticked.now) }
 {

@@ -103,6 +103,7 @@ pub(crate) fn replay(text: &[u8], out: &mut Out) -> Result<(), Stop> {
         return Ok(());
     };
     out.write_all(times_text(setup.records.as_bytes()).as_bytes())?;
+    // Named one by one: a closure has no type parameter, and no function may hand out a dyn.
     match plan_kind(setup.records.as_bytes()) {
         ServerKind::Polling => play::<Polling>(&setup, &mut lines, out),
         ServerKind::Deferrable => play::<Deferrable>(&setup, &mut lines, out),

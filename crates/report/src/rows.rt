@@ -18,6 +18,7 @@ fn push_time(text: &mut Text, time: u32)
     }
 }
 
+// Rows are pushed and not written by `write!`: of a text that is cut off it promises nothing.
 fn push_row(text: &mut Text, number: usize, letter: u8, time: u32)
     ensures { written text.new ≡ take room (written text.old ++ row number letter time) }
 {

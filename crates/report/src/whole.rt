@@ -58,7 +58,7 @@ fn first_server(records: &[[u8; 20]]) -> Option<u8>
         .find(|letter| is_server(*letter))
 }
 
-// The first letter of a server in a plan, or P.
+// The first letter of a server in a plan, or P. `plan_kind` gives the same as an enum.
 pub fn plan_letter(plan: &[u8]) -> u8
     ensures { result ≡ plan_letter plan.now }
 {
@@ -87,6 +87,7 @@ pub fn plan_times(plan: &[u8], out: &mut [u32]) -> Result<u32, Fault>
     ensures answered { answer result ≡ counted (plan_times plan.now) (length out.old) }
     ensures after { out.new ≡ filled (plan_times plan.now) out.old }
 {
+    // Named one by one: a closure has no type parameter, and no function may hand out a dyn.
     match plan_kind(plan) {
         ServerKind::Polling => times_for::<Polling>(plan, out),
         ServerKind::Deferrable => times_for::<Deferrable>(plan, out),

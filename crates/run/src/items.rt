@@ -16,7 +16,7 @@ pub struct Request {
 #[derive(Clone, Copy, Debug, PartialEq, Eq)]
 pub struct Completion {
     pub line: u32,
-    // The request's number; 0 for a job, and no Option: the scope fixes this form, in which requests are numbered from 1.
+    // The request's number; 0 for a job, and no Option: this form is fixed, and requests are numbered from 1.
     pub number: u32,
     // the ticks from its arrival or offer to its end
     pub ticks: u32,

@@ -1,4 +1,5 @@
-// A run: the time, its lines, and how many requests were counted. The caller keeps the two queues.
+// A run: the time, its lines, and how many requests were counted. A rule of the project: the caller keeps the two queues, and may
+// give others with any call. `Session` holds all three together.
 mod ask;
 mod calls;
 mod finish;

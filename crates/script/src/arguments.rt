@@ -11,8 +11,8 @@ pub(crate) fn numbers<const N: usize>(line: &[u8]) -> Option<[u32; N]>
     ensures { result ≡ numbers N line.now }
 {
     let mut all = [0; N];
-    for i in 0..N {
-        all[i] = number(word(line, i + 1))?;
+    for (i, n) in all.iter_mut().enumerate() {
+        *n = number(word(line, i + 1))?;
     }
     word(line, N + 1).is_empty().then_some(all)
 }

@@ -24,7 +24,7 @@ pub enum Command {
     Ask(u32),
 }
 
-// A line of a plan: its letter, and its numbers.
+// A line of a plan: its letter, a byte as it was read, and its numbers.
 fn plan_line(letter: u8, line: &[u8]) -> Option<Command>
     ensures { result ≡ plan_line letter line.now }
 {

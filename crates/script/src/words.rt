@@ -8,7 +8,7 @@ fn is_blank(byte: u8) -> bool
     matches!(byte, b' ' | b'\t' | b'\r')
 }
 
-// Word n of a line, counted from 0; empty where there is none.
+// Word n of a line, counted from 0; empty where there is none, as a word that is no number: an Option would be taken off at each use.
 pub(crate) fn word(line: &[u8], n: usize) -> &[u8]
     ensures { result.now ≡ word line.now n }
 {

@@ -17,7 +17,7 @@ pub trait Server: Sized {
 
     ghost state: { Self → kind.State };
 
-    // Whether the kind serves this letter.
+    // Whether the kind serves this letter. Any byte may be asked of, and a kind made later may serve another.
     fn serves(letter: u8) -> bool
         ensures { result ≡ kind.serves letter };
 

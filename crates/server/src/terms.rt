@@ -6,6 +6,7 @@ use plan::line::ServerLine;
 // The terms of a server, within their bounds: its letter, and the budget of ticks that it may run in each period.
 #[derive(Clone, Copy, Debug, PartialEq, Eq)]
 pub struct ServerTerms {
+    // A byte, as in the line: what a public field takes may not become narrower.
     pub letter: u8,
     pub budget: u32,
     pub period: u32,

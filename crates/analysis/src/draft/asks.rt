@@ -21,7 +21,8 @@ impl<S: Server> Draft<S> {
         }
     }
 
-    // Writes the response time of each line into the first numbers, 0 where a line does not pass, and answers how many
+    // Writes the response time of each line into the first numbers, 0 where a line does not pass (no Option: the form of the
+    // numbers is fixed, as C reads them), and answers how many
     // lines there are. Where the numbers are too few it is refused, and nothing is written.
     pub fn times(&self, out: &mut [u32]) -> Result<u32, Fault>
         ensures answered { answer result ≡ timed (lines self.now) out.old }

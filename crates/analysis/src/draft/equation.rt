@@ -12,6 +12,7 @@ use server::kind::Server;
 use server::round::ceil_div;
 use server::terms::ServerTerms;
 
+// It has the shape of `limit_of` and reads other fields; a function of both would take the fields as closures.
 fn own_work(line: &Line) -> u32
     ensures { result ≡ own line.now }
 {
@@ -30,7 +31,8 @@ fn limit_of(line: &Line) -> u32
     }
 }
 
-// The most that a line takes from the lines below it in w ticks.
+// The most that a line takes from the lines below it in w ticks. The bound on w stands in three contracts: a type for it would
+// be taken off again at `ceil_div` and `ceiling`.
 fn share_of<S: Server>(line: &Line, w: u32) -> u32
     requires fit { Fit line.now }
     requires window { w ≤ 1000000 }

@@ -29,7 +29,7 @@ impl From<Refusal> for Refused {
 }
 
 impl Refusal {
-    // The refusal with the record and the byte that it names; 0 for none.
+    // The refusal with the record and the byte that it names; 0 for none, as the library answers.
     pub(crate) fn at(self, record: u32, byte: u32) -> Place {
         Place {
             refused: self.into(),

@@ -4,4 +4,4 @@ use Rattle.script.proofs.Counting.{begun}
 use Rattle.script.proofs.arguments.numbers.Given as goal
 
 abbrev pub invariant-loop-i : goal.invariant-loop-i
-invariant-loop-i g l = (length l.all ≡ g.row.N) × (begun l.all l.i g.row.N l.line ≡ numbers_from 1 g.row.N l.line)
+invariant-loop-i g l = (length l.n-items ≡ g.row.N) × (begun l.n-items l.i g.row.N l.line ≡ numbers_from 1 g.row.N l.line)
