@@ -1,5 +1,5 @@
 -- The requests that wait, earliest first.
-use Rattle.std.specs.Prelude.{ℕ, ◌-◌, Bool, cond, ◌&&◌, List, [], ◌∷◌, Some, None, Option, ◌==◌, nat_le}
+use Rattle.std.specs.Prelude.{◌≡◌, ℕ, ◌+◌, ◌-◌, ◌<◌, Bool, false, cond, ◌&&◌, List, [], ◌∷◌, Some, None, Option, ◌==◌, nat_le, slice_index_or}
 use Rattle.std.specs.List.{list_any}
 use Rattle.run.specs.declared.items.Request.{Request}
 
@@ -10,6 +10,10 @@ waits_for i r = r.line == i && nat_le 1 r.left
 -- some request waits for line i
 abbrev pub wanted : ℕ → List Request → Bool
 wanted i ws = list_any (waits_for i) ws
+
+-- marks for lines 1 to 20, the first line's at place 0: whether a request waits for the line
+abbrev pub Marks : List Request → List Bool → Type 0
+Marks ws marks = (i : ℕ) → i < 20 → slice_index_or marks i false ≡ wanted (i + 1) ws
 
 -- a request worked on for a tick
 abbrev pub lessened : Request → Request

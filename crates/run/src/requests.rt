@@ -2,7 +2,7 @@
 ghost use Rattle.std.specs.Prelude.{◌≡◌, ℕ, ◌+◌, ◌<◌, false, ◌||◌, position, slice_index_or};
 ghost use Rattle.run.specs.Machine.{count_waiting, sum_waiting};
 ghost use Rattle.queue.specs.Items.{items, room};
-ghost use Rattle.run.specs.Requests.{waits_for, wanted, earliest, served};
+ghost use Rattle.run.specs.Requests.{Marks, waits_for, earliest, served};
 
 use crate::items::Request;
 use queue::Queue;
@@ -27,9 +27,9 @@ fn mark(wants: &mut [bool; 20], request: &Request)
 }
 
 // For which lines a request waits, the first line at place 0.
-// One pass over the requests for all lines: asking `any` for each line would go through them 20 times in each tick.
+// One pass over the requests for all lines together, once in a tick.
 pub(crate) fn wanted_lines(requests: &[Request]) -> [bool; 20]
-    ensures { (i : ℕ) → i < 20 → slice_index_or result i false ≡ wanted (i + 1) requests.now }
+    ensures { Marks requests.now result }
 {
     let mut wants = [false; 20];
     for request in requests {

@@ -1,15 +1,15 @@
 // What a run does with its lines.
-ghost use Rattle.std.specs.Prelude.{◌≡◌, ◌-◌, ◌≤◌, map, length, slice_set};
+ghost use Rattle.std.specs.Prelude.{◌≡◌, ◌-◌, ◌≤◌, List, map, length, slice_set};
 ghost use Rattle.std.specs.Option.{option_map};
 ghost use Rattle.std.specs.List.{All};
 ghost use Rattle.plan.specs.Records.{Fit};
 ghost use Rattle.run.specs.Machine.{row_of};
+ghost use Rattle.run.specs.declared.items.Request.{Request};
+ghost use Rattle.run.specs.Requests.{Marks};
 ghost use Rattle.run.specs.Rows.{fresh, lined, opened, shut};
 ghost use Rattle.run.specs.Views.{view, views};
 
-use crate::items::Request;
 use crate::line::RunLine;
-use crate::requests::wanted_lines;
 use crate::rows::Rows;
 use plan::line::Line;
 use server::kind::Server;
@@ -50,10 +50,9 @@ impl<S: Server + Copy> Rows<S> {
     }
 
     // The starts of a tick.
-    pub(crate) fn open(&mut self, time: u32, requests: &[Request])
-        ensures { views S.Server self.new ≡ lined (opened time requests.now) 1 (views S.Server self.old) }
+    pub(crate) fn open(&mut self, time: u32, wants: &[bool; 20])
+        ensures { (ws : List Request) → Marks ws wants.now → views S.Server self.new ≡ lined (opened time ws) 1 (views S.Server self.old) }
     {
-        let wants = wanted_lines(requests);
         for (i, row) in self.all[..self.count].iter_mut().enumerate() {
             row.open(time, wants[i]);
         }

@@ -1,8 +1,10 @@
 // One tick of a run.
-ghost use Rattle.std.specs.Prelude.{◌≡◌, ◌<◌, false, length, nat_le};
+ghost use Rattle.std.specs.Prelude.{◌≡◌, ◌<◌, false, List, length, nat_le};
 ghost use Rattle.queue.specs.Items.{items, room};
 ghost use Rattle.run.specs.Answers.{tick_of, tick_reply};
 ghost use Rattle.run.specs.Machine.{ticked, advanced, tick_now};
+ghost use Rattle.run.specs.declared.items.Request.{Request};
+ghost use Rattle.run.specs.Requests.{Marks};
 ghost use Rattle.run.specs.Rows.{first_ready, ready_bits};
 ghost use Rattle.run.specs.Runs.{machine};
 ghost use Rattle.run.specs.Views.{views};
@@ -10,6 +12,7 @@ ghost use Rattle.run.specs.Views.{views};
 use crate::answers::Ticked;
 use crate::items::{Completion, Request};
 use crate::refusal::RunRefusal;
+use crate::requests::wanted_lines;
 use crate::run::Run;
 use crate::work::{note, work};
 use queue::Queue;
@@ -49,8 +52,9 @@ impl<S: Server + Copy> Run<S> {
         ensures answered { tick_of result ≡ tick_now (machine S.Server self.old requests.old completions.old) }
         ensures after { machine S.Server self.new requests.new completions.new ≡ advanced (machine S.Server self.old requests.old completions.old) }
     {
-        self.rows.open(self.time, requests.as_slice());
-        let ticked = self.choice(requests.as_slice());
+        let wants = wanted_lines(requests.as_slice());
+        self.rows.open(self.time, &wants);
+        let ticked = self.choice(&wants);
         let row = self.row(ticked.line);
         let ended = work(row, ticked.line, self.time + 1, requests);
         note(completions, ended);
@@ -60,15 +64,15 @@ impl<S: Server + Copy> Run<S> {
     }
 
     // What the tick answers whose starts are done.
-    fn choice(&self, requests: &[Request]) -> Ticked
+    fn choice(&self, wants: &[bool; 20]) -> Ticked
         ensures number { result.number ≡ self.now.time }
-        ensures line { result.line ≡ first_ready requests.now 1 (views S.Server self.now.rows) }
-        ensures ready { result.ready ≡ ready_bits requests.now 1 (views S.Server self.now.rows) }
+        ensures line { (ws : List Request) → Marks ws wants.now → result.line ≡ first_ready ws 1 (views S.Server self.now.rows) }
+        ensures ready { (ws : List Request) → Marks ws wants.now → result.ready ≡ ready_bits ws 1 (views S.Server self.now.rows) }
     {
         Ticked {
             number: self.time,
-            line: self.rows.first_ready(requests),
-            ready: self.rows.ready_bits(requests),
+            line: self.rows.first_ready(wants),
+            ready: self.rows.ready_bits(wants),
         }
     }
 }
