@@ -22,6 +22,7 @@ impl<S: Server + Copy> Rows<S> {
         ensures { views S.Server result ≡ map fresh lines.now }
     {
         let mut all = [RunLine::default(); 20];
+        // By place, and no `zip`: its invariant would speak of the inside of both iterators.
         for (i, line) in lines.iter().enumerate() {
             all[i] = RunLine::fresh(line);
         }
@@ -53,6 +54,7 @@ impl<S: Server + Copy> Rows<S> {
     pub(crate) fn open(&mut self, time: u32, wants: &[bool; 20])
         ensures { (ws : List Request) → Marks ws wants.now → views S.Server self.new ≡ lined (opened time ws) 1 (views S.Server self.old) }
     {
+        // `wants` by place, and no `zip`: its invariant would speak of the inside of both iterators.
         for (i, row) in self.all[..self.count].iter_mut().enumerate() {
             row.open(time, wants[i]);
         }

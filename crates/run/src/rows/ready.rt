@@ -36,6 +36,7 @@ impl<S: Server> Rows<S> {
     pub(crate) fn ready_bits(&self, wants: &[bool; 20]) -> u32
         ensures { (ws : List Request) → Marks ws wants.now → result ≡ ready_bits ws 1 (views S.Server self.now) }
     {
+        // `wants` by place, and no `zip`: its invariant would speak of the inside of both iterators.
         let mut bits = 0;
         for (i, row) in self.all[..self.count].iter().enumerate() {
             bits += bit(row.is_ready(wants[i]), i);
