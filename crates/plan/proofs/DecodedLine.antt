@@ -18,9 +18,6 @@ pub decoded_passes : (bs : List ℕ) (l : Line) → decoded bs ≡ line l → Pa
 unfolding decoded
 decoded_passes bs l e = search rules
 
-pub decoded_length : (bs : List ℕ) (l : Line) → decoded bs ≡ line l → length bs ≡ 20
-decoded_length bs l e = (decoded_passes bs l e).long
-
 numbers_fit : (letter work period deadline first : ℕ) (l : Line) → is_letter letter ≡ true → numbers letter work period deadline first ≡ line l → Fit l
 numbers_fit letter work period deadline first (Task t) known e = search rules
 numbers_fit letter work period deadline first (Server s) known e = search rules

@@ -38,9 +38,3 @@ times_refused (refused n r b) room number «record» byte fits e =
 -- what a caller with room for 20 times learns of a plan that is refused
 pub plan_refused : (bs : List ℕ) (room number «record» byte : ℕ) → 20 ≤ room → refused number «record» byte ≡ counted (plan_times bs) room → plan_times bs ≡ refused number «record» byte
 plan_refused bs room number «record» byte wide = times_refused (plan_times bs) room number «record» byte (λ ts is. omega (arith, (plan_extent bs ts is).few))
-
--- and of one that is not: its times are the first numbers
-pub plan_granted : (bs out after : List ℕ) (count : ℕ) → granted count ≡ counted (plan_times bs) (length out) → after ≡ filled (plan_times bs) out → granted (take count after) ≡ plan_times bs
-plan_granted bs out after count e is =
-    let got = times_granted (plan_times bs) out after count e is in
-    ap granted got.front ∙ sym got.is

@@ -1,6 +1,6 @@
 -- A change of each row, one after the other.
 use Rattle.std.proofs.Common.{◌≡◌, ℕ, suc, ◌+◌, ◌<◌, ◌≤◌, List, [], ◌∷◌, ◌++◌, map, length, get_or, take, drop, set, sym, refl, ap, ◌∙◌, ⊎_elim, append_assoc, add-zero, arith}
-use Rattle.std.proofs.lemmas.List.{take_more, drop_more, set_at, get_or_at, take_at, take_all, take-append-drop, drop_all, append-nil, length-take-le, length-append, length-map, get_or-map, map-set, set_past, take-map}
+use Rattle.std.proofs.lemmas.List.{take_more, drop_more, set_at, get_or_at, take_at, take_all, take-append-drop, drop_all, append-nil, length-take-le, length-append, length-map, get_or-map, map-set, set_past}
 use Rattle.std.proofs.lemmas.Bool.{cases_lt}
 use Rattle.run.specs.Rows.{lined}
 
@@ -67,6 +67,3 @@ module _ {A B : Type 0} (v : B → A) (f : ℕ → A → A) (old : List B) where
       (λ (past : length now ≤ i).
       ap (map v) (set_past now i new past) ∙ before ∙ done_past f (map v old) i (omega arith) ∙ sym (done_past f (map v old) (i + 1) (omega arith)))
       (cases_lt i (length now))
-
-  pub seen_all : (now : List B) (n : ℕ) → map v now ≡ done_to f n (map v old) → map v (take n now) ≡ lined f 1 (map v (take n old))
-  seen_all now n all = sym (take-map v n now) ∙ ap (take n) all ∙ done_all f (map v old) n ∙ ap (lined f 1) (take-map v n old)

@@ -37,15 +37,6 @@ all_read bs all i count whole past =
     ap Some (sym (append-nil (take i all) ∙ take_all i all whole))
     ∙ ap (λ k. option_map (λ rest. take i all ++ rest) (numbers_from (i + 1) k bs)) (sym none)
 
-pub nothing_read : (bs all : List ℕ) (count : ℕ) → begun all 0 count bs ≡ numbers_from 1 count bs
-nothing_read bs all count =
-    let whole : count - 0 ≡ count = omega arith in
-    ap (λ k. option_map (λ rest. take 0 all ++ rest) (numbers_from 1 k bs)) whole ∙ go (take 0 all) refl (numbers_from 1 count bs)
-  where
-    go : (front : List ℕ) → front ≡ [] → (o : Option (List ℕ)) → option_map (λ rest. front ++ rest) o ≡ o
-    go front none None = refl
-    go front none (Some rest) = ap (λ xs. Some (xs ++ rest)) none
-
 -- with no numbers it does not matter whether the line ends there
 pub none_either : (ends : Bool) (o : Option (List ℕ)) → None ≡ o → None ≡ cond ends o None
 none_either true o none = none

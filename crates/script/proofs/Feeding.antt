@@ -1,7 +1,6 @@
 -- The first line of a text, and what follows it.
-use Rattle.std.proofs.Common.{◌≡◌, ℕ, ◌≤◌, Bool, true, false, cond, List, [], ◌∷◌, length, Some, None, sym, refl, arith, rules}
+use Rattle.std.proofs.Common.{◌≡◌, ℕ, ◌≤◌, Bool, true, false, cond, List, [], ◌∷◌, length, Some, None, refl, arith, rules}
 use Rattle.std.proofs.lemmas.Bool.{ltb-false}
-use Rattle.std.proofs.lemmas.List.{take_all, drop_all}
 use Rattle.std.specs.List.{before_first, after_first, position, position_or_len}
 use Rattle.script.specs.Texts.{first_line, after_line, is_feed}
 use Rattle.script.specs.Words.{is_empty}
@@ -28,9 +27,3 @@ no_place false n is = refl
 module _ (bs : List ℕ) (none : None ≡ position is_feed bs) where
   past : length bs ≤ position_or_len is_feed bs
   past = ltb-false _ _ (no_place _ _ none)
-
-  pub all_before : bs ≡ before_first is_feed bs
-  all_before = sym (take_all _ bs past)
-
-  pub none_after : [] ≡ after_first is_feed bs
-  none_after = sym (drop_all _ bs (omega (arith, past)))

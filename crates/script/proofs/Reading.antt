@@ -58,8 +58,5 @@ module _ (w : List ℕ) (i v : ℕ) (far : further (Some v) (drop i w) ≡ furth
     step : (o : Option ℕ) → o ≡ extended v (get_or w i d) → further o (drop (i + 1) w) ≡ further (Some 0) w
     step o is = ap (λ x. further x (drop (i + 1) w)) is ∙ sym (ap (further (Some v)) (drop_more w i d within)) ∙ far
 
-    pub number_goes : (next : ℕ) → Some next ≡ extended v (get_or w i d) → further (Some next) (drop (i + 1) w) ≡ further (Some 0) w
-    number_goes next is = step (Some next) is
-
     pub number_stops : None ≡ extended v (get_or w i d) → None ≡ number w
     number_stops is = sym (further_none (drop (i + 1) w)) ∙ step None is ∙ number_is w (some_bytes w (omega arith))

@@ -1,15 +1,8 @@
-use Rattle.std.proofs.Common.{take, sym, ap, ◌∙◌, rules}
+use Rattle.std.proofs.Common.{sym, rules}
 use Rattle.std.proofs.lemmas.Result.{err_from_is_err_and}
-use Rattle.arrayvec.proofs.ArrayVecLemmas.{items-with_items}
-use Rattle.plan.specs.Answers.{granted, number_of}
-use Rattle.report.proofs.Outcomes.{plan_granted, plan_refused}
+use Rattle.plan.specs.Answers.{number_of}
+use Rattle.report.proofs.Outcomes.{plan_refused}
 use Rattle.report.proofs.whole.all_times.Goals as goal
-
-pub returns : goal.returns
-returns c =
-    let written = items-with_items c.from-times.result c.plan_times.new.out (search rules) in
-    ap granted (c.truncate.ensures.items ∙ ap (take c.in_ok-count.count) written)
-    ∙ plan_granted c.args.plan.now _ _ c.in_ok-count.count c.in_ok-count.ensures.answered c.plan_times.ensures.after
 
 pub returns-in_err-count : goal.returns-in_err-count
 returns-in_err-count c =

@@ -1,15 +1,11 @@
-use Rattle.std.proofs.Common.{◌+◌, sym, ap, ◌∙◌, replicate, arith, rules}
-use Rattle.std.proofs.lemmas.List.{length-replicate}
+use Rattle.std.proofs.Common.{◌+◌, sym, ap, ◌∙◌, arith, rules}
 use Rattle.std.specs.Bool.{then_some}
 use Rattle.script.specs.Words.{is_empty}
 use Rattle.script.specs.Numbers.{number}
 use Rattle.script.specs.Commands.{ends_at, numbers}
 use Rattle.script.proofs.Splitting.{empty_is}
-use Rattle.script.proofs.Counting.{nothing_read, one_more, no_more, all_read, none_either, all_where_ends}
+use Rattle.script.proofs.Counting.{one_more, no_more, all_read, none_either, all_where_ends}
 use Rattle.script.proofs.arguments.numbers.Goals as goal
-
-pub loop-i-init : goal.loop-i-init
-loop-i-init g c = (length-replicate g.row.N 0, nothing_read c.args.line.now (replicate g.row.N 0) g.row.N)
 
 pub returns-in_err-n : goal.returns-in_err-n
 unfolding numbers

@@ -1,6 +1,6 @@
 use Rattle.std.proofs.Common.{sym, ◌∙◌, arith}
 use Rattle.std.proofs.lemmas.Bool.{eqb-true, eqb-false}
-use Rattle.script.proofs.Reading.{number_empty, number_ends, number_goes, number_stops}
+use Rattle.script.proofs.Reading.{number_empty, number_ends, number_stops}
 use Rattle.script.proofs.number.number.Goals as goal
 
 pub returns-then-is_empty : goal.returns-then-is_empty
@@ -10,11 +10,6 @@ pub returns-in_err-value : goal.returns-in_err-value
 returns-in_err-value c =
     c.from_residual.ensures
     ∙ number_stops c.args.word.now c.loop-byte.byte-index c.loop-byte.value c.loop-byte.invariant _ c.loop-byte-test.true c.in_err-value.ensures
-
-pub loop-byte-preserved : goal.loop-byte-preserved
-loop-byte-preserved c =
-    number_goes c.args.word.now c.loop-byte.byte-index c.loop-byte.value c.loop-byte.invariant _ c.loop-byte-test.true _
-    c.in_ok-value.ensures
 
 pub returns : goal.returns
 returns c =

@@ -1,4 +1,4 @@
-use Rattle.std.proofs.Common.{◌++◌, take_all, drop_of_length-le, append-nil, get_or, take, sym, refl, ◌∙◌, arith}
+use Rattle.std.proofs.Common.{get_or, take, sym, refl, ◌∙◌, arith}
 use Rattle.plan.specs.Records.{blank}
 use Rattle.analysis.specs.Times.{times}
 use Rattle.analysis.proofs.Counting.{time_from_response}
@@ -16,11 +16,3 @@ loop-i-preserved g c =
     let response = time_from_response k (take c.loop-i.i ls) (get_or ls c.loop-i.i blank) c.response_time.result c.response_time.ensures in
     times_more k ls c.args.out.now c.loop-i.out c.loop-i.i c.unwrap_or.result (omega (arith, c.requires)) (omega (arith, c.requires))
     c.loop-i.invariant (c.unwrap_or.ensures ∙ sym response)
-
-pub returns : goal.returns
-returns g c =
-    let k = g.S.Server.kind in
-    let ls = c.args.self.now.lines.items in
-    c.loop-i.invariant
-    ∙ (λ j. times k (take_all c.loop-i.i ls (omega (arith, c.requires)) j) ++ drop_of_length-le c.args.out.now {i = c.loop-i.i} (omega arith) j)
-    ∙ append-nil (times k ls)

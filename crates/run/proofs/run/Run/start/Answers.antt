@@ -6,15 +6,14 @@ use Rattle.run.specs.Promises.{Law, Timing}
 use Rattle.run.proofs.RunLaw.{law, timing}
 use Rattle.run.proofs.run.Run.start.Goals as goal
 
-pub returns : goal.returns
-returns g c =
+pub returns-clause-law : goal.returns-clause-law
+returns-clause-law g c =
     let ls = plan_lines c.args.plan in
-    record {
-      begun = c.begin.ensures;
-      law =
-          subst (Law g.S.Server.kind ls) (sym c.begin.ensures)
-          (law g.S.Server.kind g.met.S.Server.lawful ls (recursion_from_All Fit ls c.args.plan.plan.fit) c.args.plan.plan.served _ _);
-      timing =
-          subst (Timing g.S.Server.kind ls) (sym c.begin.ensures)
-          (timing g.S.Server.kind g.met.S.Server.lawful ls (recursion_from_All Fit ls c.args.plan.plan.fit) c.args.plan.plan.served _ _);
-    }
+    subst (Law g.S.Server.kind ls) (sym c.begin.ensures)
+    (law g.S.Server.kind g.met.S.Server.lawful ls (recursion_from_All Fit ls c.args.plan.plan.fit) c.args.plan.plan.served _ _)
+
+pub returns-clause-timing : goal.returns-clause-timing
+returns-clause-timing g c =
+    let ls = plan_lines c.args.plan in
+    subst (Timing g.S.Server.kind ls) (sym c.begin.ensures)
+    (timing g.S.Server.kind g.met.S.Server.lawful ls (recursion_from_All Fit ls c.args.plan.plan.fit) c.args.plan.plan.served _ _)
