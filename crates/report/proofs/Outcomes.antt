@@ -1,28 +1,9 @@
 -- What a whole plan's answer says of its times.
-use Rattle.std.proofs.Common.{◌≡◌, ℕ, ◌≤◌, Bool, true, false, cond, leb, List, ◌++◌, length, take, drop, sym, refl, ap, ◌∙◌, arith}
-use Rattle.std.proofs.lemmas.List.{take_at}
+use Rattle.std.proofs.Common.{◌≡◌, ℕ, ◌≤◌, leb, List, length, refl, arith}
 use Rattle.std.proofs.lemmas.Bool.{cond-true, le-leb}
 use Rattle.plan.specs.Answers.{Answer, granted, refused}
-use Rattle.report.specs.Results.{plan_times, counted, filled}
+use Rattle.report.specs.Results.{plan_times, counted}
 use Rattle.report.proofs.Extents.{plan_extent}
-
--- the times that were written
-record Times (a : Answer (List ℕ)) (count : ℕ) (after : List ℕ) : Type 0 where
-  ts : List ℕ
-  is : a ≡ granted ts
-  front : take count after ≡ ts
-
-fitting : (ts out after : List ℕ) (count : ℕ) (b : Bool) → granted count ≡ cond b (granted (length ts)) (refused 9 0 0) → after ≡ cond b (ts ++ drop (length ts) out) out
-    → take count after ≡ ts
-fitting ts out after count true e is =
-    let same : count ≡ length ts = cc in
-    ap (take count) is ∙ take_at ts (drop (length ts) out) count (sym same)
-fitting ts out after count false e is = let z : ◌≡◌ {A = ℕ} 0 1 = cc in absurd (omega arith)
-
-times_granted : (a : Answer (List ℕ)) (out after : List ℕ) (count : ℕ) → granted count ≡ counted a (length out) → after ≡ filled a out → Times a count after
-times_granted (granted ts) out after count e is =
-    record { ts = ts; is = refl; front = fitting ts out after count (leb (length ts) (length out)) e is }
-times_granted (refused number «record» byte) out after count e is = let z : ◌≡◌ {A = ℕ} 0 1 = cc in absurd (omega arith)
 
 -- a refusal where the times would have fit is the plan's own
 times_refused : (a : Answer (List ℕ)) (room number «record» byte : ℕ) → ((ts : List ℕ) → a ≡ granted ts → length ts ≤ room)

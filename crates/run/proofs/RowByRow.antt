@@ -1,6 +1,6 @@
 -- A change of each row, one after the other.
 use Rattle.std.proofs.Common.{◌≡◌, ℕ, suc, ◌+◌, ◌<◌, ◌≤◌, List, [], ◌∷◌, ◌++◌, map, length, get_or, take, drop, set, sym, refl, ap, ◌∙◌, ⊎_elim, append_assoc, add-zero, arith}
-use Rattle.std.proofs.lemmas.List.{take_more, drop_more, set_at, get_or_at, take_at, take_all, take-append-drop, drop_all, append-nil, length-take-le, length-append, length-map, get_or-map, map-set, set_past}
+use Rattle.std.proofs.lemmas.List.{take_more, drop_more, set_at, get_or_at, take_all, take-append-drop, drop_all, append-nil, length-take-le, length-append, length-map, get_or-map, map-set, set_past}
 use Rattle.std.proofs.lemmas.Bool.{cases_lt}
 use Rattle.run.specs.Rows.{lined}
 
@@ -44,14 +44,6 @@ module _ {A : Type 0} (f : ℕ → A → A) where
       length-append (lined f 1 (take i xs)) (drop i xs)
       ∙ ap (λ n. n + length (drop i xs)) (lined_length f 1 (take i xs))
       ∙ sym (length-append (take i xs) (drop i xs)) ∙ ap length (take-append-drop i xs)
-
-  pub done_all : (xs : List A) (n : ℕ) → take n (done_to f n xs) ≡ lined f 1 (take n xs)
-  done_all xs n =
-      ⊎_elim
-      (λ (less : n < length xs). take_at (lined f 1 (take n xs)) (drop n xs) n (lined_length f 1 (take n xs) ∙ length-take-le n xs (omega arith)))
-      (λ (past : length xs ≤ n).
-      take_all n (done_to f n xs) (omega (arith, done_length xs n)) ∙ done_past xs n past ∙ ap (lined f 1) (sym (take_all n xs past)))
-      (cases_lt n (length xs))
 
 -- the same of rows that are seen through a function v
 module _ {A B : Type 0} (v : B → A) (f : ℕ → A → A) (old : List B) where
