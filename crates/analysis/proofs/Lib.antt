@@ -2,4 +2,5 @@ pub mod Counting
 pub mod Growing
 pub mod Judging
 pub mod Monotone
+pub mod StoredLines
 pub mod Sweeps

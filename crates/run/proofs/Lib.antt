@@ -9,6 +9,7 @@ pub mod JobSteps
 pub mod Offers
 pub mod Past
 pub mod Places
+pub mod QueueSizes
 pub mod ReadyRows
 pub mod RequestLaw
 pub mod RequestSteps
@@ -19,6 +20,7 @@ pub mod ServerHistory
 pub mod ServerLaw
 pub mod ServerRun
 pub mod Serving
+pub mod Starting
 pub mod TaskBound
 pub mod TaskSteps
 pub mod Untimed

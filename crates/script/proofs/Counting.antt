@@ -11,6 +11,12 @@ use Rattle.script.specs.Commands.{with_first, numbers_from}
 abbrev pub begun : List ℕ → ℕ → ℕ → List ℕ → Option (List ℕ)
 begun all i count bs = option_map (λ rest. take i all ++ rest) (numbers_from (i + 1) (count - i) bs)
 
+-- after i numbers of a line: those that were read, and the words that are left
+pub record SoFar (bs all rest : List ℕ) (i count : ℕ) : Type 0 where
+  pub long : length all ≡ count
+  pub read : begun all i count bs ≡ numbers_from 1 count bs
+  pub left : (k : ℕ) → word rest k ≡ word bs (i + 1 + k)
+
 moved : (all : List ℕ) (i x : ℕ) → i < length all → (o : Option (List ℕ))
     → option_map (λ rest. take i all ++ rest) (with_first (Some x) o) ≡ option_map (λ rest. take (i + 1) (set all i x) ++ rest) o
 moved all i x within None = refl

@@ -90,7 +90,7 @@ fn long_named(name: &[u8], line: &[u8]) -> Option<Command>
     match name {
         b"queues" => queues(line),
         b"start" => alone(line, Command::Start),
-        b"tick" => alone(line, Command::Tick(1)).or(one(line).map(Command::Tick)),
+        b"tick" => alone(line, Command::Tick(1)).or_else(|| one(line).map(Command::Tick)),
         b"offer" => offer(line),
         b"finish" => one(line).map(Command::Finish),
         b"fetch" => alone(line, Command::Fetch),

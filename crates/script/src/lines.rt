@@ -20,6 +20,14 @@ impl<'a> Lines<'a> {
             number: 0,
         }
     }
+
+    // The number of the line that was last given, counted from 1; it stays at 4,294,967,295.
+    pub fn number(&self) -> u32
+        ensures { result ≡ self.now.number }
+    {
+        let Lines { number, .. } = self;
+        *number
+    }
 }
 
 // Where the first line feed stands, if there is one.

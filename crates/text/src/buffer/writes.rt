@@ -17,12 +17,14 @@ impl Text {
         }
     }
 
+    #[tactic(auto, unfolding(crate::specs::Written::written))]
     pub fn as_bytes(&self) -> &[u8]
         ensures { result.now ≡ written self.now }
     {
         self.bytes.as_slice()
     }
 
+    #[tactic(auto, using(crate::proofs::Cuts::uncut, crate::proofs::Cuts::full), unfolding(crate::specs::Written::written))]
     pub fn push(&mut self, byte: u8)
         ensures { written self.new ≡ take room (written self.old ++ byte ∷ []) }
     {

@@ -1,7 +1,5 @@
-use Rattle.std.proofs.Common.{◌≡◌, length}
-use Rattle.script.specs.Commands.{numbers_from}
-use Rattle.script.proofs.Counting.{begun}
+use Rattle.script.proofs.Counting.{SoFar}
 use Rattle.script.proofs.arguments.numbers.Given as goal
 
-abbrev pub invariant-loop-i : goal.invariant-loop-i
-invariant-loop-i g l = (length l.n-items ≡ g.row.N) × (begun l.n-items l.i g.row.N l.line ≡ numbers_from 1 g.row.N l.line)
+abbrev pub invariant-loop-n : goal.invariant-loop-n
+invariant-loop-n g l = SoFar l.line l.n-items l.words.rest.now l.n-index g.row.N
